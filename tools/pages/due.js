@@ -12,5 +12,5 @@ const page = vm.runInThisContext(`(() => {${source}\nreturn { readScript, readJo
 
 const [script, journal] = process.argv.slice(2).map(file => fs.readFileSync(file, 'utf8'));
 const made = page.readScript(script), read = page.readJournal(journal, made);
-const odd = page.analyse(made, read).odd.find(({ at }) => at === read.entries.length - 1);
+const odd = page.analyse(made, read, null).odd.find(({ at }) => at === read.entries.length - 1);
 if (odd && odd.due !== null && !odd.isReply) console.log(odd.due);

@@ -10,7 +10,7 @@ function start(runs, names) {
   let run = runs[0];
   const element = id => document.getElementById(id), main = element('main'), picture = element('picture');
   const shown = {
-    pick: NEVER, story: null, only: null, areAllTold: false, filter: [], from: 0, isPrinting: false, // what is asked for
+    pick: NEVER, story: null, only: null, areAllTold: false, filter: [], from: 0, isPrinting: false, wasLegendOpen: true, // what is asked for
     all: [], visible: [], names: [], layout: null, // what is drawn for it
   };
 
@@ -103,6 +103,7 @@ function start(runs, names) {
     picture.style.cssText = `height:${layout.height + 8}px;width:${pixels(layout.width)}px`;
     picture.innerHTML = drawPicture();
     element('top').innerHTML = drawTop();
+    element('account').innerHTML = run.told ? TOLD_ACCOUNT : UNPROVED_ACCOUNT;
     showPanel();
   }
 
@@ -214,6 +215,15 @@ function start(runs, names) {
     draw();
   }
 
+  // On paper the legend is open.
+  function print(isPrinting) {
+    const legend = element('legend');
+    if (isPrinting) shown.wasLegendOpen = legend.open;
+    shown.isPrinting = isPrinting;
+    legend.open = isPrinting || shown.wasLegendOpen;
+    draw();
+  }
+
   // ---- clicks and keys ----
 
   const CLICKS = {
@@ -262,8 +272,8 @@ function start(runs, names) {
     KEYS[event.key]();
   });
   addEventListener('resize', draw);
-  addEventListener('beforeprint', () => { shown.isPrinting = true; draw(); });
-  addEventListener('afterprint', () => { shown.isPrinting = false; draw(); });
+  addEventListener('beforeprint', () => print(true));
+  addEventListener('afterprint', () => print(false));
 
   widthOfText = measuring();
   if (innerWidth <= NARROW) element('legend').open = false;
@@ -278,8 +288,8 @@ if (typeof document !== 'undefined') {
   try {
     const meanings = readMeanings(textOf('meanings'));
     const runOf = (script, n) => {
-      const run = analyse(script, readJournal(textOf(`report${n}`), script));
-      return { ...run, meanings, told: readTold(textOf(`states${n}`), run.entries) };
+      const journal = readJournal(textOf(`report${n}`), script), states = textOf(`states${n}`);
+      return { ...analyse(script, journal, readTold(states, journal.entries)), verdict: readVerdict(states), meanings };
     };
     const runs = scripts.map(({ textContent }, n) => runOf(readScript(textContent), n));
     start(runs, scripts.map(script => script.dataset.name));

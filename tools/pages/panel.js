@@ -83,33 +83,33 @@ function tablesOf(run, state, at, shown) {
   ];
 }
 
+// A row of a table; a mark, as `changed`, is read out before it.
+function drawRowOf(name, html, mark) {
+  const front = mark ? `<span>${mark}: </span>` : '';
+  return `<tr${mark ? ' class="new"' : ''}><th scope="row">${front}${escaped(name)}</th><td>${html}</td></tr>`;
+}
+
 // A table with what has changed since the entry before marked and on top.
 function drawTable({ head, rows }, before, isFirst) {
   const now = new Map(rows), old = new Map(before.rows), lost = [...old].filter(([name]) => !now.has(name));
   if (!now.size && !lost.length) return '';
   const isNew = name => !isFirst && old.get(name) !== now.get(name), order = rows.slice().sort(([one], [other]) => isNew(other) - isNew(one));
-  const drawRow = (name, html, isMarked) => `<tr${isMarked ? ' class="new"' : ''}><th scope="row">${escaped(name)}</th><td>${html}</td></tr>`;
-  const drawn = order.slice(0, SHOWN).map(([name, html]) => drawRow(name, html, isNew(name)));
-  const gone = lost.map(([name, html]) => drawRow(name, `<del>${html}</del>`, true));
+  const drawn = order.slice(0, SHOWN).map(([name, html]) => drawRowOf(name, html, isNew(name) ? 'changed' : ''));
+  const gone = lost.map(([name, html]) => drawRowOf(name, `<del>${html}</del>`, 'gone'));
   const more = order.length > SHOWN ? `<p>${order.length - SHOWN} more</p>` : '';
   return `<h2>${escaped(head)}</h2><table aria-label="${escaped(head)}">${drawn.join('')}${gone.join('')}</table>${more}`;
 }
 
-// The state after an entry, worked out from the one that was shown last if that is before it.
+// The state after an entry, from the one that was shown last if that is before it.
 function walkTo(run, at) {
-  if (!run.walk || run.walk.at > at) run.walk = { state: startState(run.script), at: NEVER };
-  while (run.walk.at < at) step(run.script, run.walk.state, run.entries[++run.walk.at], run.walk.at);
+  if (!run.walk || run.walk.at > at) run.walk = { state: atStart(run), at: NEVER };
+  while (run.walk.at < at) goOn(run, run.walk.state, ++run.walk.at);
   return run.walk.state;
 }
 
-// The tables of the state after an entry: as they are told, or else as this page works them out.
-function tablesAfter(run, place, at, shown) {
-  return run.told ? toldTables(run, toldAt(run, place), at, shown) : tablesOf(run, walkTo(run, place), at, shown);
-}
-
 function drawState(run, at, shown) {
-  const before = tablesAfter(run, at - 1, at, shown);
-  return tablesAfter(run, at, at, shown).map((table, n) => drawTable(table, before[n], at === NEVER)).join('');
+  const before = tablesOf(run, walkTo(run, at - 1), at, shown);
+  return tablesOf(run, walkTo(run, at), at, shown).map((table, n) => drawTable(table, before[n], at === NEVER)).join('');
 }
 
 // ---- the panel ----
@@ -121,7 +121,8 @@ function drawMeanings(run, entry) {
   return drawn.length ? `<dl aria-label="what docs/JOURNAL.md says">${drawn.join('')}</dl>` : '';
 }
 
-function whyOdd({ due, isReply }) {
+function whyOdd({ due, isOnTime, isReply }) {
+  if (!isOnTime) return "the tick can't come here: it is to be above those of its part and of its session";
   if (isReply) return "this can't be an act of the session: it says another time, floor, lock, row, list or version than the session's";
   return due === null ? "this can't come here" : `the reply was to be ${codeHtml(due)}`;
 }
@@ -131,7 +132,6 @@ function drawEntry(run, at) {
   const parts = [`<p class="line mono">${escaped(lineOf(entry))}</p>`];
   if (run.said[at]) parts.push(`<p>${sentence(run, run.said[at])}</p>`);
   if (story) parts.push(`<p>${sentence(run, story.why)}</p>`);
-  if (run.told) for (const cause of toldCauses(run, at)) parts.push(`<p>The cause, by the definitions: ${cause}.</p>`);
   if (odd) parts.push(`<p class="bad">By the entries before, ${whyOdd(odd)}.</p>`);
   return parts.join('') + drawMeanings(run, entry);
 }
@@ -139,9 +139,17 @@ function drawEntry(run, at) {
 const TOLD_NOTE = 'as <code>hib_tools states</code> tells it, by the definitions of the journal, which is proved.';
 const UNPROVED_NOTE = 'as this page works it out: an unproved account.';
 
+// The same for the whole page.
+const TOLD_ACCOUNT = 'Which rows are stale, why an entry was refused, and since when, is drawn from the states that <code>hib_tools states</code> ' +
+  'tells by the definitions of the journal, which is proved. What a query gives is worked out in this page, and the words are its own.';
+const UNPROVED_ACCOUNT = "This is an unproved account: how a read came about is worked out in this page; tests compare its rules with the program. " +
+  '<code>hib audit</code> says by proved rules whether a journal is legal.';
+
 function drawPanel(run, at, shown) {
-  const what = at === NEVER ? '<p><b>Before the first entry.</b> Pick an entry, or step with the arrow keys, to see what it means and the state after it.</p>' :
-    `${drawEntry(run, at)}<p class="note">The state after this entry, ${run.told ? TOLD_NOTE : UNPROVED_NOTE} What the entry changed is marked.</p>`;
+  const note = run.told ? TOLD_NOTE : UNPROVED_NOTE;
+  const front = '<p><b>Before the first entry.</b> Pick an entry, or step with the arrow keys, to see what it means and the state after it.</p>';
+  const what = at === NEVER ? `${front}<p class="note">Each state here is ${note}</p>` :
+    `${drawEntry(run, at)}<p class="note">The state after this entry, ${note} What the entry changed is marked.</p>`;
   return what + drawState(run, at, shown);
 }
 
@@ -167,6 +175,10 @@ function badges(run) {
 // What is wrong with the journal, before anything is believed of it.
 function drawWarnings(run) {
   const out = [], warn = text => out.push(`<p class="note bad">${text}</p>`), open = run.transactions.filter(({ to }) => to === null);
+  if (run.verdict && run.entries[run.verdict.at]) {
+    warn(`The journal isn't legal: the first entry that isn't is at tick ${linkTo(run, run.verdict.at)}, by its ${run.verdict.rule}. ` +
+      'So says <code>hib_tools states</code>, by proved rules.');
+  }
   if (run.journal.cut) warn(`The journal is cut short: ${sentence(run, run.journal.cut)}.`);
   if (run.odd.length) {
     warn(`${count(run.odd.length, "entry doesn't", "entries don't")} follow from those before, the first at tick ${linkTo(run, run.odd[0].at)}. ` +

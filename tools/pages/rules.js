@@ -1,84 +1,17 @@
 'use strict';
 // The rules of a factory, as far as a picture needs them: from the state before an entry to its reply and the state after it. They are
 // those of docs/JOURNAL.md, said a second time and not proved; the tests compare them with the replies that the program gives.
-//
-// A state has the committed rows by key, the stamps of tables, the kept results from the one that was used least recently on, the sessions,
-// and when a key was deleted. Each node has of its own each region with its slots by key, and what explains a later reply: why a key isn't
-// in its region any more, and since when it is unsound; what lines do with whole regions; and of two nodes what waits for it. `at` is always
-// the place of an entry in the journal, and `by` a session or a bulk line.
-
-function nodeAtStart(script, number) {
-  const cached = [...script.entities.values(), ...script.collections.values()].filter(({ strategy }) => strategy !== 'none');
-  const forEach = make => new Map(cached.map(({ name }) => [name, make()]));
-  return { number, regions: forEach(() => new Map()), wides: forEach(wideAtStart), gone: new Map(), unsound: new Map(), queue: [], fence: null };
-}
-
-function startState(script) {
-  const state = {
-    committed: new Map(), stamps: new Map(), kept: new Map(), sessions: new Map(), deleted: new Map(), restarted: NEVER,
-    collections: script.collections, members: new Map(), reused: new Map(),
-    nodes: nodesOf(script).map(number => nodeAtStart(script, number)),
-  };
-  for (const [key, row] of script.rows) {
-    state.committed.set(key, { row, at: NEVER, by: null });
-    moveMembers(state, key, null, row, { at: NEVER, by: null });
-  }
-  return state;
-}
-
-const nodeOf = (state, number) => state.nodes.find(node => node.number === number);
-
-function sessionOf(state, name) {
-  if (!state.sessions.has(name)) {
-    state.sessions.set(name, {
-      name, node: 0, open: false, time: 0, floor: 0, began: NEVER, killed: NEVER, outcome: '',
-      doneAt: NEVER, stampedAt: NEVER, listedAt: NEVER, listed: '', found: null,
-      written: [], done: [], owners: [], copies: new Map(), locks: new Map(), loads: new Map(),
-    });
-  }
-  return state.sessions.get(name);
-}
-
-const openSessions = state => [...state.sessions.values()].filter(session => session.open);
-const openAt = (state, number) => openSessions(state).filter(session => session.node === number);
-const oldestOpen = (state, floor, number) => openAt(state, number).find(session => session.time === floor);
-// What is committed of a key, and since when; of an owner, to which nothing has referred yet, that it has no members.
-const unreferred = () => ({ row: membersRow([]), at: NEVER, by: null });
-const committedOf = (state, key) => state.committed.get(key) || (state.collections.has(entityOf(key)) ? unreferred() : undefined);
-const committedRow = (state, key) => committedOf(state, key) ? committedOf(state, key).row : null;
-const rowsOf = state => new Map([...state.committed].map(([key, { row }]) => [key, row]));
-const hasWritten = (session, key) => session.written.some(change => change.key === key);
-
-// What stands around an entry, in the state before it.
-function contextOf(script, state, entry, at) {
-  const node = nodeOf(state, entry.node), entity = entry.entity ? declared(script, entry.entity) : null;
-  const region = entity ? node.regions.get(entity.name) : null;
-  return {
-    script, state, node, entry, at, entity, region,
-    slot: region ? region.get(entry.key) : undefined,
-    session: entry.session === null ? null : sessionOf(state, entry.session),
-    query: entry.query ? script.queries.get(entry.query) : null,
-  };
-}
 
 // ---- registry ----
-
-// A session ends where it stands.
-function cutOff(session, at) {
-  Object.assign(session, { open: false, killed: at, written: [], copies: new Map() });
-}
 
 // The floor of an entry's node: the least time of its open sessions, or the entry's tick if there is none.
 const floorAt = (state, { node, tick }) => openAt(state, node).reduce((least, { time }) => Math.min(least, time), tick);
 
 const REGISTRY = {
   begin({ state, session, entry, at }) {
-    Object.assign(session, {
-      node: entry.node, open: true, time: entry.tick, began: at, outcome: '',
-      written: [], done: [], doneAt: NEVER, stampedAt: NEVER, locks: new Map(), loads: new Map(),
-    });
-    session.floor = floorAt(state, entry);
-    return 'floor ' + session.floor;
+    const floor = floorAt(state, entry);
+    beginWork(session, { node: entry.node, time: entry.tick, floor, at });
+    return 'floor ' + floor;
   },
   end({ session }) {
     session.open = false;
@@ -89,28 +22,12 @@ const REGISTRY = {
     return 'done';
   },
   restart({ state, at }) {
-    for (const session of openSessions(state)) cutOff(session, at);
-    for (const { regions, gone, unsound } of state.nodes) {
-      for (const key of [...regions.values()].flatMap(region => [...region.keys()])) gone.set(key, { at, how: 'restart' });
-      for (const region of regions.values()) region.clear();
-      unsound.clear();
-    }
-    for (const part of ['stamps', 'kept', 'deleted']) state[part].clear();
-    state.restarted = at;
+    startAnew(state, at);
     return 'done';
   },
 };
 
 // ---- a session's own copies ----
-
-// A copy is managed, new or to be removed; `base` is the row that it was read or written as, and null of a new one.
-const managed = (row, at) => ({ kind: 'managed', row, base: row, at });
-
-// Whether a copy isn't from the committed row, though the session hasn't written it itself.
-function isOldCopy(state, session, key) {
-  const copy = session.copies.get(key);
-  return Boolean(copy) && copy.kind === 'managed' && !hasWritten(session, key) && rowText(committedRow(state, key)) !== rowText(copy.base);
-}
 
 const OWN = {
   find({ session, entry }) {
@@ -164,8 +81,6 @@ function refusalOf(state, written) {
   return '';
 }
 
-const isGuarded = (script, key) => script.entities.get(entityOf(key)).strategy === 'read-write';
-
 // A read-write key that is inserted after it was deleted is unsound: its versions begin anew.
 function noteReuse({ script, state, session, at }) {
   for (const { kind, key } of session.written) {
@@ -216,36 +131,19 @@ const STORE = {
       applyChanges(context, session.written);
       tellOthers(context);
     }
-    Object.assign(session, { done: session.written, doneAt: refusal ? NEVER : at, written: [], outcome: refusal ? refusal.split(' ')[0] : 'committed' });
+    endWork(session, at, refusal ? refusal.split(' ')[0] : 'committed');
     return refusal || 'committed';
   },
   rollback({ session }) {
-    Object.assign(session, { done: [], written: [], copies: new Map(), outcome: 'rolled-back' });
+    dropWork(session);
     return 'done';
   },
 };
 
 // ---- regions ----
 
-// A slot is an item or a lock. A lock that nobody holds is released: `release` has the tick from which on loaded rows count as young enough,
-// and how it came about.
-const itemOf = ({ entry, at }, row, loadedAt) => ({ kind: 'item', row, tick: entry.tick, at, by: entry.session, how: entry.verb, loadedAt, over: null });
-const lockOf = ({ entry, at }, version, until) => ({ kind: 'lock', id: entry.tick, version, until, holders: [], shared: false, at, release: null });
-
-const isHeld = slot => slot.kind === 'lock' && slot.holders.length > 0;
-const tickOfSlot = slot => slot.kind === 'item' ? slot.tick : slot.release.tick;
-
 function isNewer(old, version) {
   return old !== NO_VERSION && version !== NO_VERSION && Number(old.slice(1)) < Number(version.slice(1));
-}
-
-// The row that a put offers.
-const offeredRow = entry => entry.part === 'members' ? rowOf([NO_VERSION, entry.words[3]]) : rowIn(entry, 3, 'at');
-
-// The load from which a session has the row that it offers.
-function loadBehind({ session, entry }) {
-  if (entry.part === 'members') return session.listedAt;
-  return session && session.loads.has(entry.key) ? session.loads.get(entry.key) : NEVER;
 }
 
 // Who leaves a region for a new key: a key, `''` if there is room, or null if nobody may leave.
@@ -313,7 +211,7 @@ const REGION = {
     }
     if (entity.strategy !== 'read-write') return 'present ' + slot.row.version;
     const verdict = verdictOn(slot, numberBehind(entry, 'at'), item.row.version);
-    if (verdict.startsWith('stored')) region.set(entry.key, { ...item, over: slot });
+    if (verdict.startsWith('stored')) region.set(entry.key, putOver(item, slot));
     return verdict;
   },
   lock(context) {
@@ -373,16 +271,6 @@ const STAMPS = {
     return bad === undefined ? 'fresh' : `stale ${bad} ${state.stamps.get(bad).value}`;
   },
 };
-
-// A result that is used becomes the last of the map, so the first of it is the one that was used least recently.
-function use(state, name) {
-  const kept = state.kept.get(name);
-  if (kept) {
-    state.kept.delete(name);
-    state.kept.set(name, kept);
-  }
-  return kept;
-}
 
 const RESULTS = {
   look({ state, session, entry }) {

@@ -262,11 +262,22 @@ function touch(run, state, entry, at) {
   if (run.queries.has(entry.query)) run.queries.get(entry.query).touches.push(at);
 }
 
-function analyse(script, journal) {
+// Goes on by an entry: by what is told of it, or else by the rules of this page. Answers whether it follows; a journal of which states are told
+// is legal.
+function goOn({ script, entries, told }, state, at) {
+  if (!told) return step(script, state, entries[at], at);
+  takeTold(script, state, entries[at], at, told[at]);
+  return { due: null, isOnTime: true, isReply: true, follows: true };
+}
+
+const atStart = ({ script, told }) => told ? toldAtStart(script) : startState(script);
+
+// `told` is what is told of each entry, or null.
+function analyse(script, journal, told) {
   checkNames(script, journal.entries);
-  const { entries } = journal, state = startState(script);
+  const { entries } = journal, state = atStart({ script, told });
   const run = {
-    script, journal, entries,
+    script, journal, entries, told,
     // what is drawn, and what is told
     transactions: [], locks: [], keys: new Map(), queries: new Map(), tables: new Map(), queues: new Map(), wides: new Map(),
     reads: [], stale: new Set(), findings: [], oldCopies: [], unsound: [], odd: [], marks: [], said: [],
@@ -286,8 +297,8 @@ function analyse(script, journal) {
     const changed = keysChangedBy(run, state, entry);
     run.marks.push(judge(run, contextOf(script, state, entry, at)));
     run.said.push(explain(script, state, entry, at));
-    const { due, isReply, follows } = step(script, state, entry, at);
-    if (!follows) run.odd.push({ at, due, isReply });
+    const { due, isOnTime, isReply, follows } = goOn(run, state, at);
+    if (!follows) run.odd.push({ at, due, isOnTime, isReply });
     noteTransaction(run, entry, at);
     noteLock(run, entry, at);
     for (const key of [...noteUnsound(run, state, at), ...noteCommit(run, state, entry, at)]) changed.add(key);

@@ -8,16 +8,23 @@ const REPLIES = {
 
 const isOfCache = entry => entry.part === 'region' || entry.part === 'members';
 
-// What a session remembers of a reply: the row that it got, its locks, its list.
-function remember({ session, entry, at }) {
-  if (!session) return;
+// A row that a session is told becomes its copy.
+function rememberRow({ session, entry, at }) {
   const got = /^(?:hit|row) (v.*)$/.exec(entry.reply);
-  if (got && entry.part !== 'own') {
-    session.copies.set(entry.key, managed(rowOf(tokensOf(got[1])), at));
-    session.loads.set(entry.key, at);
-  }
-  if (isOfCache(entry) && entry.verb === 'lock') session.locks.set(entry.key, Number(entry.reply.split(' ')[1]));
-  if (isOfCache(entry) && ['unlock', 'after-update'].includes(entry.verb)) session.locks.delete(entry.key);
+  if (session && got && entry.part !== 'own') session.copies.set(entry.key, managed(rowOf(tokensOf(got[1])), at));
+}
+
+// A lock that a session is given, or gives back.
+function rememberLock({ session, entry }) {
+  if (!session || !isOfCache(entry)) return;
+  if (entry.verb === 'lock') session.locks.set(entry.key, Number(entry.reply.split(' ')[1]));
+  if (['unlock', 'after-update'].includes(entry.verb)) session.locks.delete(entry.key);
+}
+
+// By which entry a session has been told the row of a key, or a list.
+function rememberSources({ session, entry, at }) {
+  if (!session) return;
+  if (/^(?:hit|row) v/.test(entry.reply) && entry.part !== 'own') session.loads.set(entry.key, at);
   if (entry.part === 'store' && entry.verb === 'list') Object.assign(session, { listedAt: at, listed: entry.reply.slice('list '.length) });
 }
 
@@ -74,11 +81,22 @@ function isOwnAct(context) {
   return entry.node === nodeOfSession(script, session.name) && session.open === (entry.verb !== 'begin') && (!says || Boolean(says(context)));
 }
 
-// Takes one entry, and answers whether its act and its reply follow from the state; `due` is the reply that was.
+// Whether a tick can come here: none is below the one before, and each is above all those of its part and of its session before.
+function isTimely({ ticks }, { tick, node, session, part, entity }) {
+  const own = part === 'own' ? [] : [`${node} ${part} ${part === 'region' ? entity : ''}`], lanes = session === null ? own : [...own, session];
+  const isRight = tick > 0 && tick >= (ticks.get('') || 0) && lanes.every(lane => tick > (ticks.get(lane) || 0));
+  for (const lane of ['', ...lanes]) ticks.set(lane, tick);
+  return isRight;
+}
+
+// Takes one entry, and answers whether its tick, its act and its reply follow from the state; `due` is the reply that was.
 function step(script, state, entry, at) {
-  const context = contextOf(script, state, entry, at), isAct = isOwnAct(context), due = dueReply(context), isReply = due === entry.reply || isFault(entry);
+  const context = contextOf(script, state, entry, at), isOnTime = isTimely(state, entry), isAct = isOwnAct(context), due = dueReply(context);
+  const isReply = due === entry.reply || isFault(entry);
   if (!isReply) believe(context);
-  remember(context);
+  rememberRow(context);
+  rememberLock(context);
+  rememberSources(context);
   noteExpired(context);
-  return { due, isAct, isReply, follows: isAct && isReply };
+  return { due, isOnTime, isAct, isReply, follows: isOnTime && isAct && isReply };
 }

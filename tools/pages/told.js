@@ -1,6 +1,9 @@
 'use strict';
-// The states of a run, as `hib_tools states` tells them: by the journal's definitions, which is proved. Nothing is worked out here: a state
-// is what was told last of each thing, and the entry that it is known from is the one that told it. docs/DATA.md says what a line has.
+// The states of a run, as `hib_tools states` tells them: by the journal's definitions, which is proved. A state goes on by what is told of
+// an entry, and by no rule of this page. What isn't told is read off the entry that tells it: who made it so, and by which act. docs/DATA.md
+// says what a line has.
+
+// ---- the lines ----
 
 const MEMBER = /"(\w+)":("(?:[^"\\]|\\.)*"|\[(?:"(?:[^"\\]|\\.)*"|[^\]"])*\]|[^,}]+)/g;
 
@@ -21,131 +24,133 @@ function toldFact(line) {
 
 // Of each entry, by its place, what is told of it; null if nothing was told of this run.
 function readTold(text, entries) {
-  const lines = text.split('\n').filter(line => line !== '');
+  const lines = text.split('\n').filter(line => line[0] === '{');
   if (!lines.length) return null;
   const told = entries.map(() => []);
   for (const fact of lines.map(toldFact)) told[fact.entry - 1].push(fact);
   return told;
 }
 
+// The first entry that isn't legal, and by which of its parts, if the program has said that in the place of states; or null.
+function readVerdict(text) {
+  const said = /^illegal (\d+) (\w+)/.exec(text.trimStart());
+  return said ? { at: Number(said[1]) - 1, rule: said[2] } : null;
+}
+
+// ---- what a key has in its region ----
+
+// The holders of a lock, the first one first. Who hasn't given back a lock that isn't there any more, holds another one.
+const holdersOfLock = ({ holding }, key, id) => (holding.get(key) || []).filter(({ lock }) => lock === id).map(({ by, at }) => ({ by, at }));
+
+function toldItem(context, fact, before) {
+  const isPut = context.entry.verb === 'put', item = itemOf(context, fact.row, isPut ? loadBehind(context) : NEVER);
+  return putOver({ ...item, tick: Number(fact.stored) }, isPut ? before : null);
+}
+
+// How a lock that nobody holds came to be so.
+function releaseIn({ entry, at }, tick) {
+  if (entry.reply === 'expired') return { tick, at, by: null, how: 'expired' };
+  if (entry.verb === 'evict') return { tick, at, by: null, how: 'evicted' };
+  return { tick, at, by: entry.session, how: 'given back', told: null };
+}
+
+function toldLock(context, fact, before) {
+  const { state, at } = context, id = Number(fact.lock), own = before && before.kind === 'lock' && before.id === id ? before : { at, release: null };
+  return {
+    kind: 'lock', id, version: fact.row.version, until: Number(fact.until), holders: holdersOfLock(state, fact.key, id), shared: fact.shared === 'true',
+    at: own.at, release: fact.holders === '0' ? releaseIn(context, Number(fact.released)) : own.release,
+  };
+}
+
+// A key isn't in its region any more. Another key than the entry's has left for that.
+function toldGone({ state, entry, at }, { entity, key }) {
+  const [{ regions, gone }] = state.nodes;
+  if (regions.get(entity).delete(key)) gone.set(key, { at, how: key === entry.key ? entry.reply : 'left' });
+}
+
+// Those who hold the key, the last one first.
+function toldHolders({ state, session, entry, at }, { entity, key, sessions }) {
+  const before = state.holding.get(key) || [], slot = state.nodes[0].regions.get(entity).get(key);
+  const taken = { by: entry.session, at, lock: Number(entry.reply.split(' ')[1]) };
+  state.holding.set(key, sessions.map(by => by === entry.session ? taken : before.find(one => one.by === by)).reverse());
+  if (slot && slot.kind === 'lock') slot.holders = holdersOfLock(state, key, slot.id);
+  if (sessions.includes(entry.session)) session.locks.set(key, taken.lock); else session.locks.delete(key);
+}
+
+// ---- a session's own copies ----
+
+// The copy of a key after an act of the session; null if it has none.
+const COPIES = {
+  get: (copy, row, at) => managed(row, at),
+  load: (copy, row, at) => managed(row, at),
+  insert: (copy, row, at) => managed(row, at),
+  update: (copy, row, at) => managed(row, at),
+  persist: (copy, row) => ({ kind: 'new', row, base: null, at: NEVER }),
+  set: (copy, row) => ({ ...copy, row }),
+  remove: copy => copy.kind === 'new' ? null : { ...copy, kind: 'removed' },
+  delete: () => null,
+};
+
 // ---- the state after an entry ----
 
-function toldAtStart(script) {
-  const parts = ['rows', 'caches', 'holders', 'unsound', 'sessions', 'copies', 'stamps', 'results'];
-  const state = Object.fromEntries(parts.map(part => [part, new Map()]));
-  for (const [key, row] of script.rows) state.rows.set(key, { key, row, holds: 'row', at: NEVER });
-  return state;
-}
-
-// Keeps what is told of a thing; of one that is said to hold nothing there is nothing to keep.
-function keep(things, name, fact, at) {
-  things.delete(name);
-  if (fact.holds !== 'nothing' && fact.open !== 'false') things.set(name, { ...fact, at });
-}
-
-// Who holds a key, each with the entry that told it first.
-function keepHolders(holders, { key, sessions }, at) {
-  const before = new Map((holders.get(key) || []).map(holder => [holder.by, holder]));
-  holders.set(key, sessions.map(by => before.get(by) || { by, at }));
-}
+// `holding` has of each key those who have locked it and not given that lock back.
+const toldAtStart = script => ({ ...startState(script), holding: new Map() });
 
 const TELLS = {
-  row(state, fact, at) { keep(state.rows, fact.key, fact, at); },
-  cache(state, fact, at) { keep(state.caches, fact.key, fact, at); },
-  stamp(state, fact, at) { keep(state.stamps, fact.table, fact, at); },
-  result(state, fact, at) { keep(state.results, fact.query, fact, at); },
-  session(state, fact, at) { keep(state.sessions, fact.session, { ...fact, changes: [] }, at); },
-  change(state, fact) { state.sessions.get(fact.session).changes.push(fact); },
-  copy(state, fact, at) {
-    if (!state.copies.has(fact.session)) state.copies.set(fact.session, new Map());
-    keep(state.copies.get(fact.session), fact.key, fact, at);
+  row({ state, entry, at }, { key, row, holds }) {
+    if (holds === 'row') state.committed.set(key, { row, at, by: entry.session }); else state.committed.delete(key);
+    if (holds === 'nothing') state.deleted.set(key, { at, by: entry.session });
   },
-  emptied(state, fact) { state.copies.delete(fact.session); },
-  holders(state, fact, at) { keepHolders(state.holders, fact, at); },
-  unsound(state, fact, at) { if (!state.unsound.has(fact.key)) state.unsound.set(fact.key, { ...fact, at }); },
-  restart(state) { for (const part of ['caches', 'holders', 'unsound', 'stamps', 'results', 'sessions', 'copies']) state[part].clear(); },
-  cause() {},
+  cache(context, fact) {
+    const region = context.state.nodes[0].regions.get(fact.entity), before = region.get(fact.key);
+    if (fact.holds === 'nothing') toldGone(context, fact);
+    else region.set(fact.key, (fact.holds === 'item' ? toldItem : toldLock)(context, fact, before));
+  },
+  stamp({ state, entry, at }, { table, stamp: value }) {
+    state.stamps.set(table, { value: Number(value), at, by: entry.session, ahead: entry.verb === 'pre' });
+  },
+  result({ state, session, entry, at }, { query, holds, time, list }) {
+    state.kept.delete(query);
+    if (holds !== 'nothing') state.kept.set(query, { time: Number(time), list, at, by: entry.session, listedAt: session.listedAt });
+  },
+  session({ state, entry, at }, fact) {
+    const session = sessionOf(state, fact.session);
+    if (fact.open === 'true') beginWork(session, { node: 0, time: Number(fact.time), floor: Number(fact.floor), at });
+    else if (entry.verb === 'kill') cutOff(session, at); else session.open = false;
+  },
+  change({ session }, { change: kind, key, expected, holds, row }) {
+    const version = kind === 'insert' ? '' : expected ? 'v' + expected : NO_VERSION;
+    session.written.push({ kind, key, expected: version, row: holds === 'row' ? row : null });
+  },
+  copy({ session, entry, at }, { key, row }) {
+    const copy = COPIES[entry.verb](session.copies.get(key), row, at);
+    if (copy) session.copies.set(key, copy); else session.copies.delete(key);
+  },
+  emptied({ session }) { session.copies = new Map(); },
+  holders: toldHolders,
+  unsound({ state, entry, at }, { key, deleted }) {
+    const [{ unsound }] = state.nodes, cause = / late$/.test(entry.reply) ? 'late' : 'expired';
+    if (!unsound.has(key)) unsound.set(key, deleted ? { at, cause: 'reused', deletedAt: Number(deleted) - 1, key } : { at, cause });
+  },
+  restart({ state, at }) {
+    startAnew(state, at);
+    state.holding.clear();
+  },
+  cause() {}, // it says what the state before the entry has, which is told already
 };
 
-function takeTold(state, facts, at) {
-  for (const fact of facts) TELLS[fact.tells](state, fact, at);
-}
-
-// The state after an entry, from the one that was shown last if that is before it.
-function toldAt(run, at) {
-  if (!run.toldWalk || run.toldWalk.at > at) run.toldWalk = { state: toldAtStart(run.script), at: NEVER };
-  while (run.toldWalk.at < at) takeTold(run.toldWalk.state, run.told[++run.toldWalk.at], run.toldWalk.at);
-  return run.toldWalk.state;
-}
-
-// ---- as tables ----
-
-const byOf = (run, at) => at === NEVER || run.entries[at].session === null ? '' : byHtml(run.entries[at].session);
-const sinceHtml = (run, { at }) => `since ${linkTo(run, at)}${byOf(run, at)}`;
-
-// Whether an item is another row than the one that is committed, both as they were told.
-const isOldTold = ({ rows }, fact) => !rows.has(fact.key) || rowText(rows.get(fact.key).row) !== rowText(fact.row);
-
-// Those who hold a lock. Of a key that isn't sound some may have locked it before, and not given that lock back.
-function toldHolders(run, { holders }, fact) {
-  const those = (holders.get(fact.key) || []).map(({ by, at }) => `${escaped(by)} (since ${linkTo(run, at)})`);
-  return those.length === Number(fact.holders) ? listed(those) : `${fact.holders} of those who haven't given a lock back: ${listed(those)}`;
-}
-
-const holdsHtml = {
-  item: ({ run, state, tick }, fact) =>
-    `${tick !== null && isOldTold(state, fact) ? '<b class="bad">old</b> ' : ''}${codeHtml(named(run.script, fact.key, fact.row))}, stored at ${fact.stored}`,
-  lock({ run, state, tick }, fact) {
-    const version = fact.version ? 'v' + fact.version : 'no version', isOver = tick !== null && tick > Number(fact.until);
-    const end = `good until ${fact.until}${isOver ? ' <b class="bad">(over)</b>' : ''}${fact.shared === 'true' ? ', shared' : ''}, over ${version}`;
-    if (fact.holders === '0') return `released lock ${fact.lock}, of ${fact.released}, ${end}`;
-    return `lock ${fact.lock}, ${end}, held by ${state ? toldHolders(run, state, fact) : fact.holders}`;
-  },
-  nothing: () => 'nothing',
+// What a session does beside that: which result it has found, what it has stamped, and what became of what it has written.
+const DOES = {
+  look({ state, session, entry }) { session.found = entry.reply === 'absent' ? null : use(state, entry.query); },
+  stamp({ session, at }) { session.stampedAt = at; },
+  commit({ session, entry, at }) { endWork(session, at, firstWord(entry.reply)); },
+  rollback({ session }) { dropWork(session); },
 };
 
-// Why the claims on the cache don't speak of a key any more.
-function toldUnsound(run, { deleted, at }) {
-  const cause = deleted ? 'reused' : / late$/.test(run.entries[at].reply) ? 'late' : 'expired';
-  return `since ${linkTo(run, at)}: ${sentence(run, UNSOUND[cause]({ deletedAt: Number(deleted) - 1 }))}`;
-}
-
-// A session's time and floor, its copies, its changes and its locks.
-function toldSessionHtml({ state }, fact) {
-  const parts = [`time ${fact.time}, floor ${fact.floor}`], changes = fact.changes.map(({ change, key }) => `${change} ${key}`);
-  const copies = [...(state.copies.get(fact.session) || [])].map(([key, { row }]) => `${key} ${rowText(row)}`);
-  const locks = [...state.holders].filter(([, holders]) => holders.some(({ by }) => by === fact.session)).map(([key]) => key);
-  if (copies.length) parts.push('copies: ' + someHtml(copies));
-  if (changes.length) parts.push('changes: ' + someHtml(changes));
-  if (locks.length) parts.push('locks: ' + someHtml(locks));
-  return parts.join('; ');
-}
-
-// The tables of a state after an entry, each with a head and rows. With `shown`, only of these keys.
-function toldTables(run, state, at, shown) {
-  const { script } = run, isShown = key => !shown || shown.has(key), around = { run, state, tick: at === NEVER ? 0 : run.entries[at].tick };
-  const table = (head, things, html) => ({ head, rows: [...things].map(([name, fact]) => [name, html(fact)]) });
-  const keys = things => [...things].filter(([key]) => isShown(key)), since = (text, fact) => `${text}, ${sinceHtml(run, fact)}`;
-  const caches = [...script.entities.values()].filter(({ strategy }) => strategy !== 'none').map(({ name, strategy, capacity }) => {
-    const own = [...state.caches].filter(([key]) => entityOf(key) === name);
-    return table(`Cache of ${name} (${strategy}, ${own.length} of ${capacity})`, keys(own), fact => since(holdsHtml[fact.holds](around, fact), fact));
-  });
-  return [
-    table('Committed rows', keys(state.rows), fact => since(codeHtml(named(script, fact.key, fact.row)), fact)),
-    ...caches,
-    table('Open sessions', state.sessions, fact => toldSessionHtml(around, fact)),
-    table('Stamps', state.stamps, fact => since(fact.stamp, fact)),
-    table('Kept results', state.results, fact => since(`${codeHtml(fact.list)} of the time ${fact.time}`, fact)),
-    table('Unsound keys', state.unsound, fact => toldUnsound(run, fact)),
-  ];
-}
-
-// Why an entry was refused, as it was told.
-function toldCauses(run, at) {
-  return run.told[at].filter(({ tells }) => tells === 'cause').map(fact => {
-    const since = fact.since ? `, since ${linkTo(run, Number(fact.since) - 1)}` : '';
-    if (fact.table) return `${fact.table} has the stamp ${fact.stamp}${since}`;
-    if (fact.query) return fact.since ? `no result of ${fact.query} is kept any more; one was kept at ${linkTo(run, Number(fact.since) - 1)}` : `no result of ${fact.query} was kept`;
-    return `${escaped(fact.key)}: ${holdsHtml[fact.holds]({ run, state: null, tick: null }, fact)}${since}`;
-  });
+// Takes what is told of an entry into the state.
+function takeTold(script, state, entry, at, facts) {
+  const context = contextOf(script, state, entry, at);
+  for (const fact of facts) TELLS[fact.tells](context, fact);
+  if (DOES[entry.verb]) DOES[entry.verb](context);
+  rememberSources(context);
 }

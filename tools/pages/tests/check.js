@@ -2,12 +2,14 @@
 //
 //   node tools/pages/tests/check.js [--kinds] FOLDER ..        each FOLDER has scripts NAME.hib, each with NAME.report
 //
-// Of each entry: its act and its reply follow by the rules from the entries before; it has a sentence, which names as many holders as the
-// reply counts; and docs/JOURNAL.md has a row for its act and its reply. Of each run: the unsound keys are those that the report names;
+// Of each entry: its tick, its act and its reply follow by the rules from the entries before; it has a sentence, which names as many
+// holders as the reply counts; and docs/JOURNAL.md has a row for its act and its reply. Of each run: the unsound keys are those that the
+// report names;
 // the states by step and from the start are the same; nothing waits for a node at the end; the committed members of an owner are those that
 // the store lists; each stale read has a story with its load, put, commit and hit, which says what is old; as many hits and lists are stale as tools/stale names,
 // which reads no section, and keys are unsound since the ticks that it names; beside itself a run comes to the same; and nothing that is
-// drawn has a hole in it, nor what differs from the run before. With --kinds, how many entries of each kind there were.
+// drawn has a hole in it, nor what differs from the run before. A journal that is cut, that has a line which was changed, or that is of
+// another script says so. With --kinds, how many entries of each kind there were.
 'use strict';
 const fs = require('fs'), path = require('path'), vm = require('vm'), { spawnSync } = require('child_process');
 
@@ -64,7 +66,8 @@ function checkEntries(file, script, journal) {
     kinds.set(kindOf(entry), (kinds.get(kindOf(entry)) || 0) + 1);
     if (entry.part === 'store' && entry.reply === 'fault') totals.faults++;
     checkEntry(file, script, state, entry, at);
-    const { due, isAct, isReply } = page.step(script, state, entry, at);
+    const { due, isOnTime, isAct, isReply } = page.step(script, state, entry, at);
+    if (!isOnTime) fail(file, `${page.lineOf(entry)}   by the rules the tick can't come here`);
     if (!isReply) fail(file, `${page.lineOf(entry)}   by the rules the reply is: ${due}`);
     if (!isAct) fail(file, `${page.lineOf(entry)}   by the rules this is no act of the session`);
   });
@@ -126,13 +129,47 @@ function checkStale(file, hits, stale, lists, old, unsound) {
   for (const since of unsound) if (!said.includes(`\n${since}: `) && !said.startsWith(`${since}: `)) fail(file, `${since}, and tools/stale says otherwise`);
 }
 
+// ---- what is wrong with a journal ----
+
+// The warnings of a page of such a text, or why it can't be drawn.
+function warningsOf(script, text) {
+  try {
+    const run = page.analyse(script, page.readJournal(text, script), null);
+    return { first: run.odd.length ? run.odd[0].at : page.NEVER, said: page.drawWarnings({ ...run, verdict: null }) };
+  } catch (fault) {
+    return { first: page.NEVER, said: fault.message };
+  }
+}
+
+const FEW = 300; // entries of a run that is bent
+
+const BENDS = {
+  'another reply': line => /\d$/.test(line) ? line + '1' : line + ' 1',
+  'another tick': line => line.replace(/^\d+/, '0'),
+  'no reply': line => line.slice(0, line.lastIndexOf(' = ')),
+};
+
+// A journal that was cut, and one with a line that was changed or is of another script, say so.
+function checkWrong(file, script, lines, entries) {
+  const place = Math.floor(entries.length / 2), cut = warningsOf(script, lines.slice(0, 1 + place).join('\n')).said;
+  if (!cut.includes(`it has ${place} of ${entries.length} entries`)) fail(file, `a journal that was cut says: ${cut}`);
+  for (const [what, bend] of Object.entries(BENDS)) {
+    const { first, said } = warningsOf(script, lines.map((line, n) => n === 1 + place ? bend(line) : line).join('\n'));
+    const isSaid = what === 'no reply' ? said.includes('is no entry') : first === place && /n't follow from those before/.test(said);
+    if (!isSaid) fail(file, `a line with ${what} says: ${said}`);
+  }
+  const other = warningsOf({ ...script, sessions: [] }, lines.join('\n')).said;
+  if (entries.some(({ session }) => session) && !other.includes('the report is of another script')) fail(file, `the report of another script says: ${other}`);
+}
+
 function checkReport(file) {
   const script = page.readScript(fs.readFileSync(file + '.hib', 'utf8')), text = fs.readFileSync(file + '.report', 'utf8'), lines = text.split('\n');
   const journal = page.readJournal(text, script), isReport = lines[0].startsWith('journal ');
   const misread = journal.entries.find((entry, at) => page.lineOf(entry) !== lines[at + 1]);
   if (journal.cut) fail(file, `is cut short: ${journal.cut}`);
+  if (isReport && journal.entries.length && journal.entries.length <= FEW) checkWrong(file, script, lines, journal.entries);
   if (isReport && misread) fail(file, `a line is read as ${page.lineOf(misread)}`);
-  const end = checkEntries(file, script, journal), run = page.analyse(script, journal), unsound = [...end.nodes[0].unsound.keys()].sort().join();
+  const end = checkEntries(file, script, journal), run = page.analyse(script, journal, null), unsound = [...end.nodes[0].unsound.keys()].sort().join();
   run.meanings = meanings;
   for (const { number, queue } of end.nodes) if (queue.length) fail(file, `${queue.length} changes wait for ${page.nodeName(number)} at the end`);
   if (journal.unsound && unsound !== journal.unsound.slice().sort().join()) fail(file, `unsound by the rules: ${unsound}; by the report: ${journal.unsound}`);
