@@ -7,7 +7,7 @@ ghost use Rattle.hib_call.specs.Streams.{ReadsFew};
 
 use crate::status::Status;
 use hib_outside::{Failed, Source};
-use std::alloc::Global;
+use std::alloc::{AllocError, Global};
 
 /// The most bytes that are read at once.
 const PIECE: usize = 4_096;
@@ -26,6 +26,18 @@ impl Source for NothingLeft {
     fn read(&mut self, _buf: &mut [u8]) -> Result<usize, Failed> {
         Ok(0)
     }
+}
+
+/// Makes room in a text for so many bytes more. A text that must grow grows by a quarter at least, so that it is moved
+/// seldom and little of its room is left unused.
+fn make_room(text: &mut Vec<u8>, bytes: usize) -> Result<(), AllocError>
+    ensures { text.new.items ≡ text.old.items }
+{
+    if text.capacity().saturating_sub(text.len()) >= bytes {
+        return Ok(());
+    }
+    let quarter = text.len() / 4;
+    text.reserve_exact(if quarter > bytes { quarter } else { bytes })
 }
 
 /// All that the source has left, up to the limit. Then the source is at its end, and has not failed. Each turn takes a
@@ -58,7 +70,7 @@ pub fn read_all<S: Source>(alloc: Global, source: &mut S, limit: usize) -> Resul
         if n == 0 {
             return Ok(text);
         }
-        if text.extend_from_slice(&piece[..n]).is_err() {
+        if make_room(&mut text, n).is_err() || text.extend_from_slice(&piece[..n]).is_err() {
             return Err(Status::NoMemory);
         }
         if text.len() > limit {
