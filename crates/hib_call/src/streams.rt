@@ -28,8 +28,8 @@ impl Source for NothingLeft {
     }
 }
 
-/// Makes room in a text for so many bytes more. A text that must grow grows by a quarter at least, so that it is moved
-/// seldom and little of its room is left unused.
+/// Makes room in a text for this many more bytes. If the text must grow, it grows by at least a quarter, so that it is
+/// seldom moved and little of its room is left unused. At an error the text is as before.
 fn make_room(text: &mut Vec<u8>, bytes: usize) -> Result<(), AllocError>
     ensures { text.new.items ≡ text.old.items }
 {

@@ -61,7 +61,7 @@ impl Turnstile {
         }
     }
 
-    /// Whether there were so many passes, in order, and nobody was held in vain.
+    /// Whether there were this many passes, in order, and nobody was held in vain.
     pub fn was_passed(&self, times: usize) -> bool {
         self.astray.load(Ordering::SeqCst) == 0
             && self.passes.load(Ordering::SeqCst) == times as u64

@@ -175,7 +175,7 @@ fn passes(came: &Came, sessions: usize, workers: u32, split: bool) -> usize {
     came.entries.saturating_add(sessions)
 }
 
-/// Whether a script of so many sessions comes to its end on some workers, who make all steps.
+/// Whether a script of this many sessions comes to its end on some workers, who make all steps.
 fn is_right<R: Threads + Wait + Sync>(
     rt: &R,
     alloc: Global,

@@ -10,7 +10,7 @@ pub fn source_with(alloc: Global, bytes: &[u8], fails: Seq<u32>) -> Result<MemSo
     Ok(MemSource::new(bytes, fails))
 }
 
-/// A sink that takes so many bytes, whose calls of these numbers fail.
+/// A sink that takes this many bytes, whose calls of these numbers fail.
 pub fn sink_with(alloc: Global, room: u32, fails: Seq<u32>) -> Result<MemSink, AllocError> {
     MemSink::new(alloc, room as usize, fails)
 }
@@ -20,7 +20,7 @@ pub fn source_of(alloc: Global, bytes: &[u8]) -> Result<MemSource, AllocError> {
     source_with(alloc, bytes, Seq::new(alloc))
 }
 
-/// A sink that takes so many bytes, of which no call fails.
+/// A sink that takes this many bytes, of which no call fails.
 pub fn sink_of(alloc: Global, room: u32) -> Result<MemSink, AllocError> {
     sink_with(alloc, room, Seq::new(alloc))
 }

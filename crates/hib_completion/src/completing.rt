@@ -16,7 +16,7 @@ use hib_base::{Act, Acts, Change, Key, Mapping, Mode, Row, Seq, Strategy, Tick, 
 use indexmap::IndexMap;
 use std::alloc::{AllocError, Global};
 
-/// If there are at most so many changes, going over them is quicker than maps of their keys.
+/// If there are at most this many changes, going over them is quicker than maps of their keys.
 const FEW: usize = 8;
 
 /// The row that may be put back after a key's last change; none if no row may, or if that was a delete.

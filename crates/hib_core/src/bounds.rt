@@ -23,7 +23,7 @@ pub fn runs_are_short()
     entries_are_few();
 }
 
-/// How many entries a run of a script has as a rule; room for so many is made at once. A run may have more or fewer.
+/// How many entries a run of a script has as a rule; room for that many is made at once. A run may have more or fewer.
 pub fn usual_length(script: &Script) -> usize {
     let mut count = script.schedule.len();
     for session in script.sessions.as_slice() {

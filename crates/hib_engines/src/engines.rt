@@ -157,7 +157,7 @@ impl<K: Keeper> Engines<K> {
         self.results.restart();
     }
 
-    /// Evicts a row of a cached entity from its region, at the wish of somebody outside. Answers the reply, which is no
+    /// Evicts a row of a cached entity from its region, as was asked from outside. Answers the reply, which is no
     /// fault. At an error nothing has changed.
     pub fn evict(&mut self, alloc: Global, key: Key, now: Tick) -> Result<Reply, AllocError>
         requires { now ≤ 2 ^ 62 }

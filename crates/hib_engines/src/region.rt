@@ -190,7 +190,7 @@ impl Region {
         }
     }
 
-    /// Evicts an item at the wish of somebody outside.
+    /// Evicts an item as was asked from outside.
     fn evict(&mut self, id: u64, now: Tick) -> Evicted
         ensures answer { result ≡ Rattle.hib_engines.specs.Region.evict self.old id }
         ensures state { self.new ≡ Rattle.hib_engines.specs.Region.after_evict self.old id now }

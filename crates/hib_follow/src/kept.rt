@@ -170,7 +170,7 @@ fn locked_again(
     }
 }
 
-/// After a holder has let go, and so many are left.
+/// After a holder has let go, and this many are left.
 fn released(old: Kept, holders: u64, now: Tick) -> Kept
     ensures { (es : List Entry) → kept_slot es result ≡ released holders now (kept_slot es old) }
 {

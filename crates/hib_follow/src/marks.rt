@@ -36,7 +36,7 @@ fn stamp_all(
     Ok(())
 }
 
-/// A tick that is so many later. One that is too large is answered as want of memory.
+/// A tick that is this many later. One that is too large is answered as want of memory.
 fn later(now: Tick, ticks: u32) -> Result<u64, AllocError>
     ensures { IfOk result (λ t. t ≡ now + ticks) }
 {

@@ -15,7 +15,7 @@ use hib_journal::Journal;
 use hib_lex::line_length;
 use std::alloc::Global;
 
-// The refusal of the line that comes after so many, the first of which has the number `first`.
+// The refusal of the line that comes after this many, the first of which has the number `first`.
 fn refused(first: u32, before: usize) -> Refused
     requires { before ≤ 2 ^ 62 }
     ensures { result ≡ refused_at first before }

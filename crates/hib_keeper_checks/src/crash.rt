@@ -169,7 +169,7 @@ fn after_stop<D: Crash + Drop + Send>(alloc: Global, files: Files<D>) -> Left {
 /// A disk in memory, which counts its calls and stops at one of them.
 type Disk = Fuse<Memory>;
 
-/// An empty disk that stops after so many calls.
+/// An empty disk that stops after this many calls.
 fn fused(alloc: Global, calls: u64) -> Disk {
     Fuse::new(Memory::new(alloc), calls)
 }

@@ -11,7 +11,7 @@ const MOST_ORDERS: usize = 20_000;
 /// The most steps of a run.
 const MOST_STEPS: u32 = 1_000_000;
 
-/// Whether an order is a run or a kill that the schedule of a script with so many sessions may have.
+/// Whether an order is a run or a kill that the schedule of a script with this many sessions may have.
 fn may_be_run_or_kill(sessions: usize, order: Order) -> bool
     ensures { result ≡ (is_run_or_kill order && is_order_in sessions order) }
 {

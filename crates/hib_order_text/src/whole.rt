@@ -222,7 +222,7 @@ fn put_nevers(out: &mut Vec<u8>, mapping: &[EntityDef]) -> Result<(), AllocError
     Ok(())
 }
 
-/// What a search of a script's orders with so many kills and switches at most has come to: how many orders there are,
+/// What a search of a script's orders with at most this many kills and switches has come to: how many orders there are,
 /// how they end, and of each finding in how many it is, with the schedule of one that has the fewest switches. Fails
 /// for want of memory alone; an order of 2^32 steps or more is answered as that.
 pub fn text(

@@ -91,7 +91,7 @@ impl ReadOnlyRegion {
         self.items.remove(id)
     }
 
-    /// Takes the item of an identifier out at the wish of somebody outside. It takes no memory.
+    /// Takes the item of an identifier out as was asked from outside. It takes no memory.
     pub fn evict(&mut self, id: u64) -> Evicted
         ensures answer { result ≡ (if is_some (item_in self.old id) then Evicted.Gone else Evicted.Absent) }
         ensures state { self.new ≡ after_remove id self.old }

@@ -1,4 +1,4 @@
-// A law on what a query gives, for proofs: it hangs on the tables that the query reads alone.
+// A law on what a query gives, for proofs: it depends only on the tables that the query reads.
 ghost use Rattle.std.specs.Prelude.{◌≡◌, List, false};
 ghost use Rattle.std.specs.List.{list_any};
 ghost use Rattle.hib_journal.specs.Types.{Change, Query};

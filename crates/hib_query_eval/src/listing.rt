@@ -42,7 +42,7 @@ pub fn last_place(query: &Query) -> usize
     query.offset as usize + query.limit as usize
 }
 
-/// Whether so many rows are enough.
+/// Whether this many rows are enough.
 pub fn is_enough(count: usize, most: Option<usize>) -> bool
     ensures { result ≡ is_enough count most }
 {

@@ -29,7 +29,7 @@ pub fn legal_is_apart()
         → IsLegal script told h → AreLater h }
 {}
 
-/// The reply to each entry of a legal journal hangs on what its part sees alone, but for what a session answers itself.
+/// The reply to each entry of a legal journal depends only on what its part sees, except what a session answers itself.
 pub fn replies_are_parts()
     ensures replies { (script : Script) (told : Option Tables) (e : Entry) (h : Journal)
         → IsLegal script told (e ∷ h) → is_of_session e.act ≡ false

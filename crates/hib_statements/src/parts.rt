@@ -126,7 +126,7 @@ pub fn read_pairs(
     Ok(ended(draft))
 }
 
-/// No pairs yet, with room for so many.
+/// No pairs yet, with room for this many.
 fn no_pairs(alloc: Global, count: usize) -> Result<Pairs, AllocError>
     ensures { IfOk result (λ p. p ≡ parts.no_pairs) }
 {

@@ -13,7 +13,7 @@ use hib_outside::{KeepFault, Keeper, Listener, Sink};
 use hib_script::ScriptError;
 use std::alloc::{AllocError, Global};
 
-/// The numbers of so many entities, from the first.
+/// The numbers of this many entities, from the first.
 #[tactic(auto, using(crate::proofs::Ranges::one_more, crate::proofs::Ranges::none_left))]
 fn entities(alloc: Global, count: u16) -> Result<Vec<EntityNo>, AllocError>
     ensures { IfOk result (λ v. v.items ≡ range_with_len 0 count) }
@@ -25,7 +25,7 @@ fn entities(alloc: Global, count: u16) -> Result<Vec<EntityNo>, AllocError>
     Ok(entities)
 }
 
-/// All rows that a keeper has of so many entities. More than 65,535 are answered as want of memory.
+/// All rows that a keeper has of this many entities. More than 65,535 are answered as want of memory.
 fn listed<K: Keeper>(alloc: Global, keeper: &mut K, count: usize) -> Result<AllRows, KeepFault>
     ensures rows { IfOk result (λ rows. IfSome (K.tables keeper.old)
         (λ m. rows ≡ rows_of (range_with_len 0 count) m)) }

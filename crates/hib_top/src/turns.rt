@@ -5,8 +5,8 @@
 pub enum Turns {
     /// By the orders of the schedule, one after the other, and then each session to its end.
     Scheduled,
-    /// On so many workers, as they come to the lock. The schedule isn't used.
+    /// On this many workers, as they come to the lock. The schedule isn't used.
     OnWorkers(u32),
-    /// On so many workers, as they come to the lock of each part. The schedule isn't used.
+    /// On this many workers, as they come to the lock of each part. The schedule isn't used.
     OnParts(u32),
 }
