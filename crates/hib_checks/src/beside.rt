@@ -52,12 +52,20 @@ impl Meeting {
 }
 
 impl Gate for Meeting {
+    ghost holds = { λ _. true };
+
     fn pass(&self, session: SessionNo, place: u32) {
         match (session.0, place) {
             (1, 0) => self.wait_for(&self.is_reading),
             (1, 1) => self.has_passed.store(true, Ordering::SeqCst),
             _ => {}
         }
+    }
+
+    fn may_hold(&self) -> bool
+        ensures { result ≡ true }
+    {
+        true
     }
 }
 

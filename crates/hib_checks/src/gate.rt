@@ -93,6 +93,8 @@ impl Turnstile {
 }
 
 impl Gate for Turnstile {
+    ghost holds = { λ _. true };
+
     fn pass(&self, session: SessionNo, place: u32) {
         if self.holds {
             match (session.0, place) {
@@ -107,5 +109,11 @@ impl Gate for Turnstile {
             1 => self.note(self.second.pass(place)),
             _ => {}
         }
+    }
+
+    fn may_hold(&self) -> bool
+        ensures { result ≡ true }
+    {
+        true
     }
 }

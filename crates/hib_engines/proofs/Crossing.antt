@@ -2,7 +2,7 @@
 -- down through the whole runs out of steps, so it stands here part by part.
 use denote.Enum.Declared as E
 use denote.RattleType.{RattleType}
-use denote.Param.Send.{IsSend, enum_send, sendable}
+use denote.Param.Send.{IsSend, IsSync, enum_send, sendable}
 use Rattle.std.proofs.Crossing.{crosses}
 use Rattle.std.proofs.MapsCrossing.{crosses as maps}
 use Rattle.lru.proofs.list.List.TheSendSync.{the_send as nodes_send}
@@ -40,6 +40,7 @@ use Rattle.hib_query_eval.specs.contracts.index.Index as IndexT
 use Rattle.hib_query_eval.specs.contracts.own.Laid as LaidT
 use Rattle.hib_query_eval.specs.contracts.own.Own as OwnT
 use Rattle.hib_store.specs.contracts.store.Store as StoreT
+use Rattle.hib_store.specs.contracts.snapshot.Snapshot as SnapshotT
 use Rattle.hib_engines.specs.contracts.store.StoreEngine as StoreEngineT
 use Rattle.hib_outside.specs.declared.keeper.Keeper as keeper
 
@@ -133,6 +134,35 @@ column_send = search (sendable, crosses, maps, place_send) depth 100 fits 100000
 
 index_send : IsSend IndexT.the_field.row
 index_send = search (sendable, crosses, column_send, key_send, row_send) depth 100 fits 100000
+
+pub snapshot_send : IsSend SnapshotT.the_field.row
+snapshot_send = search (sendable, crosses, index_send) depth 100 fits 100000
+
+-- what threads share of rows
+
+pub key_sync : IsSync KeyT.the_field.row
+key_sync = search (sendable, crosses) depth 100 fits 100000
+
+pub cell_sync : IsSync CellT.the_field.row
+cell_sync = search (sendable, crosses) depth 100 fits 100000
+
+pub row_sync : IsSync RowT.the_field.row
+row_sync = search (sendable, crosses, cell_sync) depth 100 fits 100000
+
+value_sync : IsSync ValueT.the_field.row
+value_sync = search (sendable, crosses) depth 100 fits 100000
+
+place_sync : IsSync PlaceT.the_field.row
+place_sync = search (sendable, crosses, value_sync) depth 100 fits 100000
+
+column_sync : IsSync ColumnT.the_field.row
+column_sync = search (sendable, crosses, maps, place_sync) depth 100 fits 100000
+
+index_sync : IsSync IndexT.the_field.row
+index_sync = search (sendable, crosses, column_sync, key_sync, row_sync) depth 100 fits 100000
+
+pub snapshot_sync : IsSync SnapshotT.the_field.row
+snapshot_sync = search (sendable, crosses, index_sync) depth 100 fits 100000
 
 laid_send : IsSend LaidT.the_field.row
 laid_send = search (sendable, crosses, maps, key_send, index_send) depth 100 fits 100000

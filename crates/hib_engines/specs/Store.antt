@@ -1,9 +1,9 @@
 -- A store that stands for a list: its rows are the stored ones, and it defers what the list leaves unsaved.
-use Rattle.std.specs.Prelude.{◌≡◌, ◌≤◌, ◌+◌, ℕ, false, if◌then◌else◌, List, ◌∷◌, Some, Option}
+use Rattle.std.specs.Prelude.{◌≡◌, ◌≤◌, ◌+◌, ℕ, Bool, false, not, if◌then◌else◌, List, ◌∷◌, Some, Option}
 use Rattle.std.specs.Option.{option_map}
 use Rattle.hib_base.specs.Tables.{Tables}
 use Rattle.hib_journal.specs.Types.{Change, Script, Act, Reply}
-use Rattle.hib_journal.specs.Sessions.{Journal}
+use Rattle.hib_journal.specs.Sessions.{Journal, is_empty}
 use Rattle.hib_journal.specs.Legal.{is_told}
 use Rattle.hib_journal.specs.Lists.{entry_at, unsaved, stored, IsStoreReply}
 use Rattle.hib_journal.specs.Runs.{asks}
@@ -46,3 +46,8 @@ reply_of_loaded Loaded.Fault = Reply.Fault
 abbrev pub reply_of_listed : Listed → Reply
 reply_of_listed (Listed.List cells) = Reply.Listed cells
 reply_of_listed Listed.Fault = Reply.Fault
+
+-- whether an act of a session with these changes may change the committed rows
+abbrev pub changes_rows : List Change → Act → Bool
+changes_rows cs Act.Commit = not (is_empty cs)
+changes_rows cs _ = false

@@ -7,21 +7,21 @@ ghost use Rattle.hib_base.specs.declared.entries.Act.{Act};
 ghost use Rattle.hib_base.specs.declared.replies.Reply.{Reply};
 ghost use Rattle.hib_base.specs.declared.scripts.Script.{Script as Said};
 ghost use Rattle.hib_journal.specs.Types.{Part, Commit};
-ghost use Rattle.hib_journal.specs.Sessions.{Journal};
+ghost use Rattle.hib_journal.specs.Sessions.{Journal, is_empty};
 ghost use Rattle.hib_journal.specs.Lists.{entry_at};
 ghost use Rattle.hib_journal.specs.Runs.{is_fault, asks};
 ghost use Rattle.hib_outside.specs.Causes.{Rose};
 ghost use Rattle.hib_query_eval.specs.Met.{met};
-ghost use Rattle.hib_store.specs.Stores.{changes_of, handed_back, is_store_fault, tables_committed, MeetsBelow};
+ghost use Rattle.hib_store.specs.Stores.{changes_of, handed_back, is_store_fault, tables_committed, IsSnapshotOf, MeetsBelow};
 ghost use Rattle.hib_engines.specs.Counts.{RoseWithin};
 ghost use Rattle.hib_engines.specs.Served.{is_for, HasQuery, reads};
-ghost use Rattle.hib_engines.specs.Store.{IsStored, IsStoreServed, IsCounted, IsLeft, reply_of_loaded, reply_of_listed};
+ghost use Rattle.hib_engines.specs.Store.{IsStored, IsStoreServed, IsCounted, IsLeft, changes_rows, reply_of_loaded, reply_of_listed};
 
 use hib_base::{
     Act, Change, Commit, Cond, EntityNo, Key, Mapping, QueryNo, Reply, Row, Script, SessionNo,
 };
 use hib_outside::Keeper;
-use hib_store::{Listed, Loaded, OpenFault, Store};
+use hib_store::{Listed, Loaded, OpenFault, Snapshot, Store};
 use std::alloc::{AllocError, Global};
 use std::marker::Model;
 
@@ -154,6 +154,7 @@ impl<K: Keeper> StoreEngine<K> {
             (λ r. (script : Said) (told : Option Tables) (l : Journal) (now : ℕ)
             → IsStored told l self.old → IsStoreServed script told l now session
             (Act.Write change.now) r self.new) }
+        ensures tables { self.new.tables ≡ self.old.tables }
         ensures calm { IfOk result (λ r. is_fault r ≡ false) }
         ensures faults { self.new.faults ≡ self.old.faults }
         ensures asked { self.new.asked ≡ self.old.asked }
@@ -171,6 +172,7 @@ impl<K: Keeper> StoreEngine<K> {
             (λ r. (script : Said) (told : Option Tables) (l : Journal) (now : ℕ)
             → IsStored told l self.old → IsStoreServed script told l now session Act.Commit r
             self.new) }
+        ensures clean { changes_of self.old session ≡ [] → self.new.tables ≡ self.old.tables }
         ensures asked { self.new.asked ≡ self.old.asked }
         ensures fault { IfOk result (λ r. is_fault r ≡ true
             → Rose self.old.faults self.new.faults) }
@@ -189,6 +191,7 @@ impl<K: Keeper> StoreEngine<K> {
         ensures answered { (script : Said) (told : Option Tables) (l : Journal) (now : ℕ)
             → IsStored told l self.old → IsStoreServed script told l now session Act.Rollback result
             self.new }
+        ensures tables { self.new.tables ≡ self.old.tables }
         ensures calm { is_fault result ≡ false }
         ensures entities { self.new.entities ≡ self.old.entities }
         ensures faults { self.new.faults ≡ self.old.faults }
@@ -218,6 +221,9 @@ impl<K: Keeper> StoreEngine<K> {
             → Rose self.old.faults self.new.faults) }
         ensures faults { self.old.faults ≤ self.new.faults }
         ensures entities { self.new.entities ≡ self.old.entities }
+        // The rows change only at a commit of a session that has written.
+        ensures rows { changes_rows (changes_of self.old session) act.now ≡ false
+            → self.new.tables ≡ self.old.tables }
         // A load and a list change nothing but the keeper's counts.
         ensures still { OnOk result (reads act.now ≡ true → IsCounted self.old self.new) }
         ensures err { OnErr result (IsCounted self.old self.new) }
@@ -236,6 +242,36 @@ impl<K: Keeper> StoreEngine<K> {
             // No other act is asked of the store.
             _ => Ok(Reply::Done),
         }
+    }
+
+    /// Whether an act of a session may change the committed rows: a commit, if the session has written.
+    pub fn may_change_rows(&self, session: SessionNo, act: &Act) -> bool
+        ensures { result ≡ changes_rows (changes_of self.now session) act.now }
+    {
+        match act {
+            Act::Commit => !self.is_clean(session),
+            _ => false,
+        }
+    }
+
+    /// Whether a session has written nothing since its last commit, so that it sees the committed rows.
+    pub fn is_clean(&self, session: SessionNo) -> bool
+        ensures { result ≡ is_empty (changes_of self.now session) }
+    {
+        self.store.changes(session).is_empty()
+    }
+
+    /// The committed rows of the first entities, if the index of them stands. The store gives this index away: the next
+    /// list that asks for it makes it anew. Nothing else changes, and it takes no memory.
+    pub fn give_snapshot(&mut self) -> Option<Snapshot>
+        ensures of { IfSome result (IsSnapshotOf self.old.tables) }
+        ensures tables { self.new.tables ≡ self.old.tables }
+        ensures faults { self.new.faults ≡ self.old.faults }
+        ensures asked { self.new.asked ≡ self.old.asked }
+        ensures written { self.new.written ≡ self.old.written }
+        ensures entities { self.new.entities ≡ self.old.entities }
+    {
+        self.store.give_snapshot()
     }
 
     /// Makes the index of the committed rows of the first entities, unless it stands. False only if the keeper failed;

@@ -1,17 +1,18 @@
 -- The part of the store goes on: it stands for its list with one entry more, and its keeper's counts rise as the list says.
-use Rattle.std.specs.Prelude.{cond, unwrap_or}
+use Rattle.std.specs.Prelude.{cond, unwrap_or, slice_get, MatchOption}
 use Rattle.std.proofs.Common.{◌≡◌, ◌⊎◌, ◌<◌, ◌≤◌, ◌+◌, ◌^◌, ℕ, Bool, true, false, [], ◌∷◌, Some, None, Option, refl, sym, ap, ◌∙◌, subst, arith, inl, inr}
 use Rattle.std.proofs.lemmas.Bool.{true≢false, false≢true}
 use Rattle.hib_base.specs.Tables.{Tables}
 use Rattle.hib_base.proofs.Tables.{Tested, tested}
-use Rattle.hib_journal.specs.Types.{Commit, Script, Act, Reply, Part}
+use Rattle.hib_journal.specs.Types.{Commit, Script, Act, Reply, Part, Query}
 use Rattle.hib_journal.specs.Sessions.{Journal, is_empty}
 use Rattle.hib_journal.specs.Legal.{part_of, is_of_store}
 use Rattle.hib_journal.specs.Lists.{entry_at, unsaved, IsStoreReply}
 use Rattle.hib_journal.specs.Runs.{asks, is_fault, fault_count}
 use Rattle.hib_outside.specs.Causes.{Rose}
 use Rattle.hib_session.specs.Memory.{brings}
-use Rattle.hib_store.specs.Stores.{StoreState, changes_of}
+use Rattle.hib_store.specs.Stores.{StoreState, changes_of, IsListed}
+use Rattle.hib_store.specs.declared.store.Listed.{Listed}
 use Rattle.hib_engines.specs.Counts.{RoseBy, RoseWithin}
 use Rattle.hib_engines.specs.Served.{is_for, HasQuery, reads}
 use Rattle.hib_engines.specs.Store.{IsStored, IsStoreServed, IsCounted}
@@ -19,10 +20,11 @@ use Rattle.hib_split_law.specs.Apart.{store_ask_count}
 use Rattle.hib_engines.specs.Built.{IsBuilt}
 use Rattle.hib_engines.specs.Origin.{Origin}
 use Rattle.hib_engines.proofs.Brought.{store_reads}
+use Rattle.hib_engines.proofs.Stored.{list_served}
 use Rattle.hib_engines.proofs.Rose.{rose_more, rose_on, rose_if}
 use Rattle.hib_parts.specs.Copied.{is_small}
 use Rattle.hib_parts.specs.Listed.{WorkerState, IsPartList, IsDueAct, IsDueEntry, IsDueOn, IsLater, IsKept}
-use Rattle.hib_parts.specs.Stored.{IsKeeping, IsStoreEntered}
+use Rattle.hib_parts.specs.Stored.{IsKeeping, IsStartReply, IsStoreEntered}
 use Rattle.hib_parts.proofs.Lists.{part_more}
 use Rattle.hib_parts.proofs.Steps.{shared_fits, part_on, for_part, known}
 
@@ -70,14 +72,14 @@ pub record StoreStep (script : Script) (told : Option Tables) (l : Journal) (x y
   pub small : brings a ≡ false → is_small r ≡ true
   pub asked : RoseWithin x.asked (cond (asks (unsaved w.number l) a) 1 0) y.asked
 
-pub store_step : (script : Script) (told : Option Tables) (l : Journal) (x y : StoreState) (w : WorkerState) (a : Act) (now : ℕ) (r : Reply) → IsBuilt script → IsStored told l x →
+pub store_step : (script : Script) (told : Option Tables) (l : Journal) (x y : StoreState) (w : WorkerState) (a : Act) (now : ℕ) (r : Reply) → IsStored told l x →
     IsDueOn script Part.Store w → IsDueAct script w a → IsLater now l w.list →
-    ((given : Option Tables) (j : Journal) (t : ℕ) → IsStored given j x → is_for Part.Store a w.number ≡ true → HasQuery script a → IsStoreServed script given j t w.number a r y) →
+    (is_for Part.Store a w.number ≡ true → IsStoreServed script told l now w.number a r y) →
     RoseWithin x.asked (cond (asks (changes_of x w.number) a) 1 0) y.asked → StoreStep script told l x y w a now r
-store_step script told l x y w a now r b stands on d t f g =
+store_step script told l x y w a now r stands on d t f g =
     let q : part_of a w.number ≡ Part.Store = part_on script Part.Store w a on d in
     let here : is_for Part.Store a w.number ≡ true = for_part Part.Store a w.number q in
-    let v : IsStoreServed script told l now w.number a r y = f told l now stands here (known script w a b d).query in
+    let v : IsStoreServed script told l now w.number a r y = f here in
     record {
       fits = shared_fits script Part.Store w a l now r refl d q t;
       part = q;
@@ -86,6 +88,36 @@ store_step script told l x y w a now r b stands on d t f g =
       small = λ p. store_small script told l w.number now a r v.reply here p;
       asked = subst (λ cs. RoseWithin x.asked (cond (asks cs a) 1 0) y.asked) (stands.changes w.number) g;
     }
+
+-- ---- a list over the rows at the start
+
+start_served : (script : Script) (told : Option Tables) (l : Journal) (now s : ℕ) (a : Act) (r : Reply) (x : StoreState) → IsStored told l x → x.tables ≡ told → changes_of x s ≡ [] →
+    IsStartReply script told a r → IsStoreServed script told l now s a r x
+start_served script told l now s (Act.List q) (Reply.Listed cells) x k e c g = at (slice_get script.queries q) refl g
+  where
+    at : (o : Option Query) → slice_get script.queries q ≡ o → MatchOption o ⊥ (λ d. IsListed told [] d (Listed.List cells)) → IsStoreServed script told l now s (Act.List q) (Reply.Listed cells) x
+    at None there h = absurd h
+    at (Some d) there h = list_served script told l now s q d (Listed.List cells) x x k there
+        (subst (λ t. IsListed t (changes_of x s) d (Listed.List cells)) (sym e) (subst (λ cs. IsListed told cs d (Listed.List cells)) (sym c) h)) refl refl
+start_served script told l now s (Act.List q) r x k e c g = absurd g
+start_served script told l now s a r x k e c g = absurd g
+
+pub start_calm : (script : Script) (told : Option Tables) (a : Act) (r : Reply) → IsStartReply script told a r → is_fault r ≡ true → ⊥
+start_calm script told (Act.List q) (Reply.Listed cells) g p = false≢true p
+start_calm script told (Act.List q) r g p = absurd g
+start_calm script told a r g p = absurd g
+
+within_same : (n : ℕ) (b : Bool) → RoseWithin n (cond b 1 0) n
+within_same n true = record { later = omega arith; few = omega arith }
+within_same n false = record { later = omega arith; few = omega arith }
+
+pub start_on : (script : Script) (told : Option Tables) (l : Journal) (n : ℕ) (x : StoreState) (w v : WorkerState) (a : Act) (now : ℕ) (r : Reply) → IsKept w v → n ≡ v.number →
+    IsStored told l x → IsDueOn script Part.Store w → IsDueAct script w a → IsLater now l w.list → x.tables ≡ told → changes_of x n ≡ [] → IsStartReply script told a r →
+    StoreStep script told l x x w a now r
+start_on script told l n x w v a now r k e stands on d t same clean given =
+    store_step script told l x x w a now r stands on d t
+    (λ h. start_served script told l now w.number a r x stands same (subst (λ m. changes_of x m ≡ []) (e ∙ k.number) clean) given)
+    (within_same x.asked (asks (changes_of x w.number) a))
 
 -- ---- the part
 
@@ -132,9 +164,11 @@ pub store_on : (said script : Script) (told : Option Tables) (l : Journal) (n : 
     RoseWithin x.asked (cond (asks (changes_of x n) a) 1 0) y.asked → StoreStep script told l x y w a now r
 store_on said script told l n x y w v a now r q k e b stands on d t f g =
     let same : n ≡ w.number = e ∙ k.number in
-    store_step script told l x y w a now r b stands on d t
-    (subst (λ m. (given : Option Tables) (j : Journal) (u : ℕ) → IsStored given j x → is_for Part.Store a m ≡ true → HasQuery script a → IsStoreServed script given j u m a r y) same
-    (subst (λ (s : Script). (given : Option Tables) (j : Journal) (u : ℕ) → IsStored given j x → is_for Part.Store a n ≡ true → HasQuery s a → IsStoreServed s given j u n a r y) q f))
+    let served : (given : Option Tables) (j : Journal) (u : ℕ) → IsStored given j x → is_for Part.Store a w.number ≡ true → HasQuery script a → IsStoreServed script given j u w.number a r y =
+    subst (λ m. (given : Option Tables) (j : Journal) (u : ℕ) → IsStored given j x → is_for Part.Store a m ≡ true → HasQuery script a → IsStoreServed script given j u m a r y) same
+    (subst (λ (s : Script). (given : Option Tables) (j : Journal) (u : ℕ) → IsStored given j x → is_for Part.Store a n ≡ true → HasQuery s a → IsStoreServed s given j u n a r y) q f) in
+    store_step script told l x y w a now r stands on d t
+    (λ h. served told l now stands h (known script w a b d).query)
     (subst (λ m. RoseWithin x.asked (cond (asks (changes_of x m) a) 1 0) y.asked) same g)
 
 pub store_entered : (script : Script) (told : Option Tables) (l new : Journal) (x y : StoreState) (w v : WorkerState) (a : Act) (now : ℕ) (r : Reply) → StoreStep script told l x y w a now r →
@@ -159,3 +193,11 @@ store_left x y a s q f g = by_test (tested (brings a))
     by_test : Tested (brings a) → IsCounted x y
     by_test (inl b) = f (store_reads a s q b)
     by_test (inr b) = absurd (g b)
+
+-- the store has given its index away
+pub keeping_same : (from : Origin) (l : Journal) (x y : StoreState) (refused : Bool) → IsKeeping from l x refused → y.tables ≡ x.tables → y.written ≡ x.written → y.faults ≡ x.faults → y.asked ≡ x.asked → IsKeeping from l y refused
+keeping_same from l x y refused h t w f a = record {
+  stands = record { rows = t ∙ h.stands.rows; changes = λ n. ap (λ z. Rattle.hib_store.specs.Stores.changes_in z n) w ∙ h.stands.changes n };
+  faults = subst (λ n. RoseBy from.faults (fault_count l) n) (sym f) h.faults;
+  asked = λ u. subst (λ n. RoseWithin from.asked (store_ask_count l) n) (sym a) (h.asked u);
+}

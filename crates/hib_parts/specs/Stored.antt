@@ -1,22 +1,25 @@
 -- What the part of the store keeps.
-use Rattle.std.specs.Prelude.{◌≡◌, ◌<◌, ◌≤◌, ℕ, Bool, true, false, ◌∷◌, Option, unwrap_or, if◌then◌else◌}
+use Rattle.std.specs.Prelude.{◌≡◌, ◌<◌, ◌≤◌, ℕ, Bool, true, false, [], ◌∷◌, slice_get, Option, MatchOption, unwrap_or, if◌then◌else◌}
 use Rattle.hib_base.specs.Tables.{Tables}
-use Rattle.hib_journal.specs.Types.{Script, Part, Entry}
+use Rattle.hib_journal.specs.Types.{Script, Part, Entry, Act, Reply}
 use Rattle.hib_journal.specs.Sessions.{Journal}
 use Rattle.hib_journal.specs.Lists.{unsaved, IsStoreReply}
 use Rattle.hib_journal.specs.Runs.{asks, is_fault, fault_count}
 use Rattle.hib_outside.specs.Causes.{Rose}
-use Rattle.hib_store.specs.Stores.{StoreState}
+use Rattle.hib_store.specs.Stores.{StoreState, IsListed}
+use Rattle.hib_store.specs.declared.store.Listed.{Listed}
 use Rattle.hib_engines.specs.Counts.{RoseBy, RoseWithin}
 use Rattle.hib_engines.specs.Store.{IsStored}
 use Rattle.hib_split_law.specs.Apart.{store_ask_count}
 use Rattle.hib_engines.specs.Origin.{Origin}
 use Rattle.hib_parts.specs.Listed.{WorkerState}
 
--- the store's part: its entries, the newest first, whether memory ran out in a call, and what its keeper tells
+-- the store's part: its entries, the newest first, whether memory ran out in a call, whether no session that has written has committed,
+-- and what its keeper tells
 pub record StoredState : Type 0 where
   pub list : Journal
   pub refused : Bool
+  pub unchanged : Bool
   pub tables : Option Tables
   pub faults : ℕ
   pub asked : ℕ
@@ -41,3 +44,14 @@ pub record IsStoreEntered (script : Script) (told : Option Tables) (now : ℕ) (
   pub asked : RoseWithin x.asked (if asks (unsaved (unwrap_or entry.session 0) l) entry.act then 1 else 0) y.asked
   pub faults : x.faults ≤ y.faults
   pub fault : is_fault entry.reply ≡ true → Rose x.faults y.faults
+
+-- an act is a list, and the reply is what its query gives to a session without changes over the committed rows at the start, if the keeper
+-- tells these rows
+abbrev pub IsStartReply : Script → Option Tables → Act → Reply → Type 0
+IsStartReply script told (Act.List q) (Reply.Listed cells) = MatchOption (slice_get script.queries q) ⊥ (λ d. IsListed told [] d (Listed.List cells))
+IsStartReply script told _ _ = ⊥
+
+-- a list over the rows at the start: of which query, and the reply that it is
+pub record StartListState : Type 0 where
+  pub query : ℕ
+  pub reply : Reply

@@ -1,5 +1,5 @@
 // The store as a part, with the list of its entries.
-ghost use Rattle.std.specs.Prelude.{◌≡◌, ◌≤◌, ◌^◌, [], ◌∷◌, true, false, IfOk, IfErr, OnOk, OnErr};
+ghost use Rattle.std.specs.Prelude.{◌≡◌, ◌≤◌, ◌^◌, [], ◌∷◌, true, false, IfOk, IfErr, IfSome, IsSome, OnOk, OnErr};
 ghost use Rattle.std.specs.Option.{option_map};
 ghost use Rattle.hib_base.specs.declared.entries.Entry.{Entry};
 ghost use Rattle.hib_base.specs.declared.entries.Part.{Part};
@@ -7,18 +7,19 @@ ghost use Rattle.hib_journal.specs.Kept.{past};
 ghost use Rattle.hib_journal.specs.Lists.{stored};
 ghost use Rattle.hib_journal.specs.Runs.{fault_count, is_fault};
 ghost use Rattle.hib_outside.specs.Causes.{Rose};
-ghost use Rattle.hib_store.specs.Stores.{handed_back, is_store_fault};
+ghost use Rattle.hib_store.specs.Stores.{changes_of, handed_back, is_store_fault};
 ghost use Rattle.hib_split_law.specs.Apart.{IsPartLegal, store_ask_count};
 ghost use Rattle.hib_engines.specs.Counts.{RoseBy, RoseWithin};
 ghost use Rattle.hib_engines.specs.Store.{IsCounted, IsStored};
 ghost use Rattle.hib_engines.specs.Origin.{origin_over};
 ghost use Rattle.hib_engines.specs.Built.{IsBuilt};
 ghost use Rattle.hib_parts.specs.Listed.{AreOf, IsDueOn, IsEntered, IsLater, IsKept, last_of};
-ghost use Rattle.hib_parts.specs.Stored.{IsStoreEntered};
+ghost use Rattle.hib_parts.specs.Stored.{IsStartReply, IsStoreEntered};
 
-use crate::entering::{enter_answer, prepared};
+use crate::entering::{enter_answer, enter_both, prepared};
+use crate::start_rows::{StartList, StartRows};
 use crate::worker::Worker;
-use hib_base::{Script, Tick};
+use hib_base::{Act, Reply, Script, SessionNo, Tick};
 use hib_engines::{Name, StoreEngine};
 use hib_journal::Journal;
 use hib_outside::Keeper;
@@ -33,10 +34,13 @@ pub struct StorePart<K: Keeper, N: Name> {
     list: Journal,
     /// Whether memory ran out in a call of `serve`.
     refused: bool,
+    /// Whether the committed rows are those at the start: no session that has written has committed.
+    unchanged: bool,
     of: PhantomData<N>,
 }
 
 impl<K: Keeper, N: Name> Model for StorePart<K, N> {
+    ghost use Rattle.std.specs.Prelude.{◌≡◌, true};
     ghost use Rattle.hib_journal.specs.Kept.{past};
     ghost use Rattle.hib_journal.specs.Types.{Part};
     ghost use Rattle.hib_engines.specs.Built.{IsBuilt};
@@ -48,6 +52,7 @@ impl<K: Keeper, N: Name> Model for StorePart<K, N> {
     ghost view = { λ p. record {
       list = past p.list;
       refused = p.refused;
+      unchanged = p.unchanged;
       tables = p.store.tables;
       faults = p.store.faults;
       asked = p.store.asked;
@@ -55,11 +60,37 @@ impl<K: Keeper, N: Name> Model for StorePart<K, N> {
 
     ghost invariant = { λ p. IsBuilt N.script
         × IsPartList N.script N.from.tables Part.Store (past p.list) p.last
-        × IsKeeping N.from (past p.list) p.store p.refused };
+        × IsKeeping N.from (past p.list) p.store p.refused
+        × (p.unchanged ≡ true → p.store.tables ≡ N.from.tables) };
+}
+
+/// The replies that a list over the rows at the start is to an act, if it may be taken: the act is this list, no commit
+/// has changed the rows, and the session has written nothing.
+fn taken<K: Keeper, N: Name>(
+    store: &StoreEngine<K>,
+    unchanged: bool,
+    session: SessionNo,
+    act: &Act,
+    found: Option<StartList<N>>,
+) -> Option<(Reply, Reply)>
+    ensures twin { IfSome result (λ r. r.1 ≡ r.0) }
+    ensures given { IfSome result (λ r. IsStartReply N.script N.from.tables act.now r.0) }
+    ensures unchanged { IsSome result → unchanged ≡ true }
+    ensures clean { IsSome result → changes_of store.now session ≡ [] }
+{
+    let found = found?;
+    match act {
+        Act::List { query }
+            if unchanged && *query == found.query() && store.is_clean(session) =>
+        {
+            Some(found.replies())
+        }
+        _ => None,
+    }
 }
 
 /// One act of a session on the store: its entry goes to both lists, or if memory runs out to neither. It is what
-/// `serve` does, before that notes whether memory ran out.
+/// `serve` does, before that notes whether memory ran out. Answers whether the committed rows may have changed.
 fn serve_store<K: Keeper, N: Name>(
     alloc: Global,
     script: &Script,
@@ -67,24 +98,33 @@ fn serve_store<K: Keeper, N: Name>(
     store: &mut StoreEngine<K>,
     list: &mut Journal,
     now: Tick,
-) -> Result<(), AllocError>
+    unchanged: bool,
+    found: Option<StartList<N>>,
+) -> Result<bool, AllocError>
     requires script { script.now ≡ N.script }
     requires built { IsBuilt N.script }
     requires due { IsDueOn N.script Part.Store worker.old }
     requires later { IsLater now (past list.old) worker.old.list }
     requires stands { IsStored N.from.tables (past list.old) store.old }
+    requires unchanged { unchanged ≡ true → store.old.tables ≡ N.from.tables }
     ensures number { worker.new.number ≡ worker.old.number }
     ensures entered { OnOk result (IsStoreEntered N.script N.from.tables now (past list.old)
         (past list.new) store.old store.new worker.old worker.new) }
     ensures kept { OnErr result (IsKept worker.old worker.new) }
     ensures same { OnErr result (past list.new ≡ past list.old) }
     ensures counted { OnErr result (IsCounted store.old store.new) }
+    ensures rows { IfOk result (λ changed. changed ≡ false → store.new.tables ≡ store.old.tables) }
 {
     let acts = prepared(alloc, script, worker, list)?;
     let number = worker.number();
+    if let Some(replies) = taken(store, unchanged, number, &acts.0, found) {
+        enter_both(alloc, script, worker, list, acts, replies, now)?;
+        return Ok(false);
+    }
+    let changed = store.may_change_rows(number, &acts.0);
     let reply = store.serve(alloc, script, number, &acts.0)?;
     enter_answer(alloc, script, worker, list, acts, reply, now)?;
-    Ok(())
+    Ok(changed)
 }
 
 impl<K: Keeper, N: Name> StorePart<K, N> {
@@ -97,6 +137,7 @@ impl<K: Keeper, N: Name> StorePart<K, N> {
             ≡ N.from }
         ensures list { IfOk result (λ p. p.list ≡ []) }
         ensures going { IfOk result (λ p. p.refused ≡ false) }
+        ensures unchanged { IfOk result (λ p. p.unchanged ≡ true) }
         ensures back { IfErr result (λ e. K.tables (handed_back e) ≡ K.tables keeper) }
         ensures back_faults { IfErr result (λ e. K.faults keeper ≤ K.faults (handed_back e)) }
         ensures back_asked { IfErr result (λ e. K.asked (handed_back e) ≡ K.asked keeper) }
@@ -116,6 +157,7 @@ impl<K: Keeper, N: Name> StorePart<K, N> {
             last: Tick(0),
             list: Journal::open(alloc),
             refused: false,
+            unchanged: true,
             of: PhantomData,
         })
     }
@@ -144,14 +186,16 @@ impl<K: Keeper, N: Name> StorePart<K, N> {
     }
 
     /// One act of a session. The act must be due in it, and on the store. It is answered at this tick, which must be
-    /// after the last ticks of both. Its entry goes to both lists, with a fault only if the keeper failed. If memory
-    /// runs out both lists are as before, the keeper was asked once at most, and `refused` says so from then on.
+    /// after the last ticks of both. Its entry goes to both lists, with a fault only if the keeper failed. A list that
+    /// was worked out over the rows at the start is taken as the answer, if it is one. If memory runs out both lists are
+    /// as before, the keeper was asked once at most, and `refused` says so from then on.
     pub fn serve(
         &mut self,
         alloc: Global,
         worker: &mut Worker<N>,
         script: &Script,
         now: Tick,
+        found: Option<StartList<N>>,
     ) -> Result<(), AllocError>
         requires script { script.now ≡ N.script }
         requires due { IsDueOn N.script Part.Store worker.old }
@@ -167,15 +211,41 @@ impl<K: Keeper, N: Name> StorePart<K, N> {
         ensures tables { OnErr result (self.new.tables ≡ self.old.tables) }
         ensures refused { OnErr result (self.new.refused ≡ true) }
     {
-        match serve_store(alloc, script, worker, &mut self.store, &mut self.list, now) {
-            Ok(()) => {
+        let (store, list) = (&mut self.store, &mut self.list);
+        match serve_store(alloc, script, worker, store, list, now, self.unchanged, found) {
+            Ok(changed) => {
                 self.last = now;
+                self.unchanged = self.unchanged && !changed;
                 Ok(())
             }
             Err(error) => {
                 self.refused = true;
                 Err(error)
             }
+        }
+    }
+
+    /// Whether the committed rows are those at the start, as no session that has written has committed.
+    pub fn unchanged(&self) -> bool
+        ensures { result ≡ self.now.unchanged }
+    {
+        self.unchanged
+    }
+
+    /// The committed rows at the start, made ready for the script's queries, if they still stand and the store has an
+    /// index of them. The store gives its index away for that, and makes another if a list asks for it. None as well if
+    /// memory runs out.
+    pub fn share(&mut self, alloc: Global, script: &Script) -> Option<StartRows<N>>
+        ensures same { self.new ≡ self.old }
+        ensures unchanged { IsSome result → self.old.unchanged ≡ true }
+    {
+        if !self.unchanged {
+            return None;
+        }
+        let mut snapshot = self.store.give_snapshot()?;
+        match snapshot.ready(alloc, script.queries.as_slice()) {
+            Ok(()) => Some(StartRows::of(snapshot)),
+            Err(_) => None,
         }
     }
 
@@ -197,6 +267,7 @@ impl<K: Keeper, N: Name> StorePart<K, N> {
             last: _,
             list,
             refused: _,
+            unchanged: _,
             of: _,
         } = self;
         (store.close(), list)

@@ -15,6 +15,7 @@ use crate::region::RegionPart;
 use crate::registry::RegistryPart;
 use crate::results::ResultsPart;
 use crate::stamps::StampsPart;
+use crate::start_rows::StartList;
 use crate::store::StorePart;
 use crate::worker::Worker;
 use hib_base::{EntityNo, Part, Script, Tick};
@@ -60,12 +61,14 @@ pub fn step_registry<N: Name>(
 }
 
 /// One act of a session on the store, which must be due in it, at the tick that is due; its entry goes to both lists.
-/// At an error both lists are as before, though the keeper may have been asked.
+/// A list that was worked out over the rows at the start is taken as the answer, if it is one. At an error both lists
+/// are as before, though the keeper may have been asked.
 pub fn step_store<K: Keeper, N: Name>(
     alloc: Global,
     script: &Script,
     store: &mut StorePart<K, N>,
     worker: &mut Worker<N>,
+    found: Option<StartList<N>>,
 ) -> Result<(), AllocError>
     requires script { script.now ≡ N.script }
     requires due { IsDueOn N.script Part.Store worker.old }
@@ -80,7 +83,7 @@ pub fn step_store<K: Keeper, N: Name>(
     ensures same { OnErr result (store.new.list ≡ store.old.list) }
 {
     let now = tick_of(store.last(), worker.last())?;
-    store.serve(alloc, worker, script, now)?;
+    store.serve(alloc, worker, script, now, found)?;
     Ok(())
 }
 
@@ -230,7 +233,7 @@ impl<K: Keeper, N: Name> Parts<K, N> {
     {
         match part {
             Part::Registry => step_registry(alloc, script, &mut self.registry, worker),
-            Part::Store => step_store(alloc, script, &mut self.store, worker),
+            Part::Store => step_store(alloc, script, &mut self.store, worker, None),
             Part::Stamps => step_stamps(alloc, script, &mut self.stamps, worker),
             Part::Results => step_results(alloc, script, &mut self.results, worker),
             Part::Region(entity) => {

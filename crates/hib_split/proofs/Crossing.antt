@@ -3,11 +3,8 @@
 use denote.RattleType.{RattleType}
 use denote.Param.Send.{IsSend, IsSync, sendable}
 use Rattle.std.proofs.Crossing.{crosses}
-use Rattle.hib_engines.proofs.Crossing.{journal_send, session_send, registry_send, stamps_send, results_send, region_send, engine_send}
-use Rattle.hib_base.specs.contracts.numbers.Key as KeyT
+use Rattle.hib_engines.proofs.Crossing.{journal_send, session_send, registry_send, stamps_send, results_send, region_send, engine_send, cell_sync, row_sync, snapshot_send, snapshot_sync}
 use Rattle.hib_base.specs.contracts.seq.Seq as SeqT
-use Rattle.hib_base.specs.contracts.rows.Cell as CellT
-use Rattle.hib_base.specs.contracts.rows.Row as RowT
 use Rattle.hib_base.specs.contracts.scripts.ColumnDef as ColumnT
 use Rattle.hib_base.specs.contracts.scripts.EntityDef as EntityT
 use Rattle.hib_base.specs.contracts.scripts.Query as QueryT
@@ -18,6 +15,7 @@ use Rattle.hib_outside.specs.declared.keeper.Keeper as keeper
 use Rattle.hib_engines.specs.declared.names.Name as name
 use Rattle.hib_parts.specs.contracts.registry.RegistryPart as RegistryPartT
 use Rattle.hib_parts.specs.contracts.store.StorePart as StorePartT
+use Rattle.hib_parts.specs.contracts.start_rows.StartRows as StartRowsT
 use Rattle.hib_parts.specs.contracts.stamps.StampsPart as StampsPartT
 use Rattle.hib_parts.specs.contracts.results.ResultsPart as ResultsPartT
 use Rattle.hib_parts.specs.contracts.region.RegionPart as RegionPartT
@@ -33,15 +31,6 @@ strange_send = search (sendable, crosses) depth 100 fits 100000
 -- what threads share of a script
 seq_sync : (T : RattleType) → IsSync T → IsSync (SeqT.the_field T).row
 seq_sync T s = search (sendable, crosses) depth 100 fits 100000
-
-key_sync : IsSync KeyT.the_field.row
-key_sync = search (sendable, crosses) depth 100 fits 100000
-
-cell_sync : IsSync CellT.the_field.row
-cell_sync = search (sendable, crosses) depth 100 fits 100000
-
-row_sync : IsSync RowT.the_field.row
-row_sync = search (sendable, crosses, cell_sync) depth 100 fits 100000
 
 column_sync : IsSync ColumnT.the_field.row
 column_sync = search (sendable, crosses, cell_sync) depth 100 fits 100000
@@ -79,6 +68,12 @@ module _ (K : RattleType) (k : keeper.Ghosts K.Denot) (sk : IsSend K) where
     region_part_send : IsSend (RegionPartT.the_field N n).row
     region_part_send = search (sendable, crosses, region_send, journal_send) depth 100 fits 100000
 
+    start_rows_send : IsSend (StartRowsT.the_field N n).row
+    start_rows_send = search (sendable, crosses, snapshot_send) depth 100 fits 100000
+
+    start_rows_sync : IsSync (StartRowsT.the_field N n).row
+    start_rows_sync = search (sendable, crosses, snapshot_sync) depth 100 fits 100000
+
     worker_send : IsSend (WorkerT.the_field N n).row
     worker_send = search (sendable, crosses, session_send, journal_send) depth 100 fits 100000
 
@@ -89,7 +84,7 @@ module _ (K : RattleType) (k : keeper.Ghosts K.Denot) (sk : IsSend K) where
     locked_sync = search (sendable, crosses, region_part_send) depth 100 fits 100000
 
     fields_sync : IsSync (LockedPartsT.the_field K N k n).row
-    fields_sync = search (sendable, crosses, registry_part_send, store_part_send, stamps_part_send, results_part_send, locked_sync, worker_send, ended_send, strange_send) depth 100 fits 100000
+    fields_sync = search (sendable, crosses, registry_part_send, store_part_send, stamps_part_send, results_part_send, locked_sync, worker_send, ended_send, strange_send, start_rows_send, start_rows_sync) depth 100 fits 100000
 
     pub locked_parts_sync : IsSync (LockedPartsT.the_row K N k n)
     locked_parts_sync = search (sendable, fields_sync) depth 20

@@ -1,8 +1,9 @@
 // What a thread leaves of a session that is at its end: its entries alone, so that its memory is given back.
-ghost use Rattle.std.specs.Prelude.{◌≡◌, [], None, IfSome};
+ghost use Rattle.std.specs.Prelude.{◌≡◌, [], None, Some, slice_get, IfSome, MatchOption};
 ghost use Rattle.hib_journal.specs.Kept.{past};
 ghost use Rattle.hib_journal.specs.Next.{next};
 ghost use Rattle.hib_split_law.specs.Apart.{IsOwnLegal};
+ghost use Rattle.hib_split.specs.Ended.{EndedState};
 
 use hib_base::SessionNo;
 use hib_engines::Name;
@@ -63,6 +64,7 @@ impl<N: Name> Ended<N> {
     fn list_as(self, number: SessionNo) -> Option<Journal>
         ensures legal { IfSome result (λ l. IsOwnLegal N.script number (past l)) }
         ensures over { IfSome result (λ l. next N.script number (past l) ≡ None) }
+        ensures own { self.number ≡ number → MatchOption result ⊥ (λ l. past l ≡ self.list) }
     {
         let Ended {
             number: own,
@@ -73,10 +75,12 @@ impl<N: Name> Ended<N> {
     }
 }
 
-/// The entries of a session that is at its end, if they stand at its place.
+/// The entries of a session that is at its end, if they stand at its place. They are taken from there.
 pub fn list_at<N: Name>(ended: &mut Vec<Option<Ended<N>>>, number: SessionNo) -> Option<Journal>
     ensures legal { IfSome result (λ l. IsOwnLegal N.script number (past l)) }
     ensures over { IfSome result (λ l. next N.script number (past l) ≡ None) }
+    ensures there { (left : EndedState) → slice_get ended.old.items number ≡ Some (Some left)
+        → left.number ≡ number → MatchOption result ⊥ (λ l. past l ≡ left.list) }
     ensures none { ended.old.items ≡ [] → result ≡ None }
     ensures same { ended.old.items ≡ [] → ended.new.items ≡ [] }
 {

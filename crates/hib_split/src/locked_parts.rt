@@ -1,6 +1,7 @@
 // What the threads of a run share: each part behind a lock of its own, and what they leave for the caller.
 ghost use Rattle.std.specs.Prelude.{◌≡◌, ◌<◌, ◌≤◌, ◌+◌, ◌^◌, [], map, vec_len, vec_capacity, None, Ok, IfNone, IfOk, IsOk};
 ghost use Rattle.hib_journal.specs.Next.{next};
+ghost use Rattle.hib_base.specs.declared.entries.Part.{Part};
 ghost use Rattle.hib_parts.specs.Listed.{IsDueOn};
 ghost use Rattle.hib_parts.specs.Run.{entities_of};
 
@@ -8,17 +9,17 @@ use crate::ended::Ended;
 use crate::halt::Halt;
 use crate::locks::{LockedRegion, lock_regions, step_under_lock, unlock_regions};
 use crate::strange::Strange;
-use hib_base::{Part, Script, SessionNo};
+use hib_base::{Act, Part, Script, SessionNo};
 use hib_engines::{Name, Stepped};
 use hib_journal::part_of;
 use hib_outside::{Keeper, lock_soon};
 use hib_parts::{
-    Parts, RegionPart, RegistryPart, ResultsPart, StampsPart, StorePart, Worker, step_own,
-    step_registry, step_results, step_stamps, step_store,
+    Parts, RegionPart, RegistryPart, ResultsPart, StampsPart, StartList, StartRows, StorePart, Worker,
+    step_own, step_registry, step_results, step_stamps, step_store,
 };
 use std::alloc::{AllocError, Global};
 use std::sync::atomic::{AtomicBool, AtomicUsize, Ordering};
-use std::sync::{Mutex, Wait};
+use std::sync::{Mutex, OnceLock, Wait};
 
 /// What threads share: each part behind a lock of its own, the number of the next session that nobody has taken, and
 /// what they leave.
@@ -37,6 +38,10 @@ pub struct LockedParts<K: Keeper, N: Name> {
     strange: Mutex<Option<Strange>>,
     /// Whether memory ran out in a thread.
     refused: AtomicBool,
+    /// The rows at the start, once a list was asked of them.
+    start: OnceLock<StartRows<N>>,
+    /// Whether a commit has changed the rows.
+    changed: AtomicBool,
     ghost few: { sessions < 2 ^ 32 },
 }
 
@@ -148,6 +153,8 @@ impl<K: Keeper, N: Name> LockedParts<K, N> {
             ended: Mutex::new(ended),
             strange: Mutex::new(None),
             refused: AtomicBool::new(false),
+            start: OnceLock::new(),
+            changed: AtomicBool::new(false),
         }
     }
 
@@ -173,6 +180,8 @@ impl<K: Keeper, N: Name> LockedParts<K, N> {
             ended,
             strange,
             refused,
+            start: _,
+            changed: _,
         } = self;
         let mut regions = room;
         let unlocked = unlock_regions(locks, &mut regions);
@@ -257,8 +266,66 @@ impl<K: Keeper, N: Name> LockedParts<K, N> {
             return Ok(Stepped::Done);
         };
         let part = part_of(&act, worker.number());
-        self.step_on(rt, alloc, script, worker, part)?;
+        self.step_on(rt, alloc, script, worker, part, &act)?;
         Ok(Stepped::Did)
+    }
+
+    /// What a list gives over the rows at the start, if threads share these rows and no commit has changed them so far.
+    /// None for another act. No lock is held.
+    fn found(
+        &self,
+        alloc: Global,
+        script: &Script,
+        act: &Act,
+    ) -> Result<Option<StartList<N>>, AllocError>
+        requires { script.now ≡ N.script }
+    {
+        let Act::List { query } = act else {
+            return Ok(None);
+        };
+        if self.changed.load(Ordering::SeqCst) {
+            return Ok(None);
+        }
+        match self.start.get() {
+            Some(rows) => rows.list(alloc, script, *query),
+            None => Ok(None),
+        }
+    }
+
+    /// Notes whether the rows have changed. If they haven't, threads share them from now on.
+    fn share(&self, alloc: Global, script: &Script, store: &mut StorePart<K, N>)
+        ensures { store.new ≡ store.old }
+    {
+        if !store.unchanged() {
+            self.changed.store(true, Ordering::SeqCst);
+            return;
+        }
+        if self.start.get().is_none() {
+            if let Some(rows) = store.share(alloc, script) {
+                let _ = self.start.try_set(rows);
+            }
+        }
+    }
+
+    /// Answers the act that is due in a session under the lock of the store, which it must be on. A list over the rows at
+    /// the start is worked out before the lock is taken. It is the answer unless a commit came between.
+    fn step_store<R: Wait>(
+        &self,
+        rt: &R,
+        alloc: Global,
+        script: &Script,
+        worker: &mut Worker<N>,
+        act: &Act,
+    ) -> Result<(), Halt>
+        requires script { script.now ≡ N.script }
+        requires due { IsDueOn N.script Part.Store worker.old }
+    {
+        let found = self.found(alloc, script, act)?;
+        let mut held = lock_soon(rt, &self.store);
+        let store = &mut *held;
+        step_store(alloc, script, store, worker, found)?;
+        self.share(alloc, script, store);
+        Ok(())
     }
 
     /// Answers the act that is due in a session under the lock of this part. The act must be on it.
@@ -269,6 +336,7 @@ impl<K: Keeper, N: Name> LockedParts<K, N> {
         script: &Script,
         worker: &mut Worker<N>,
         part: Part,
+        act: &Act,
     ) -> Result<(), Halt>
         requires script { script.now ≡ N.script }
         requires due { IsDueOn N.script part worker.old }
@@ -277,9 +345,7 @@ impl<K: Keeper, N: Name> LockedParts<K, N> {
             Part::Registry => {
                 step_registry(alloc, script, &mut *lock_soon(rt, &self.registry), worker)?;
             }
-            Part::Store => {
-                step_store(alloc, script, &mut *lock_soon(rt, &self.store), worker)?;
-            }
+            Part::Store => self.step_store(rt, alloc, script, worker, act)?,
             Part::Stamps => {
                 step_stamps(alloc, script, &mut *lock_soon(rt, &self.stamps), worker)?;
             }

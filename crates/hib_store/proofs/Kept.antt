@@ -14,7 +14,7 @@ use Rattle.hib_query_eval.specs.Met.{met}
 use Rattle.hib_query_eval.proofs.Mets.{met_alike}
 use Rattle.hib_query_eval.proofs.Laid.{kept, row_at_kept, in_order_kept, same_tables, row_at_with_absent}
 use Rattle.hib_store.specs.Types.{Key, Change, Commit, Cond, Query}
-use Rattle.hib_store.specs.Stores.{AreOf, IsIndexed, IsListed, MeetsBelow, if_applied, index_left, tables_answered}
+use Rattle.hib_store.specs.Stores.{AreOf, IsIndexed, IsListed, IsSnapshotOf, MeetsBelow, ReadsBelow, SnapshotState, if_applied, index_left, tables_answered}
 use Rattle.hib_store.specs.declared.store.Listed.{Listed}
 use Rattle.hib_journal.specs.Types.{Cell}
 
@@ -129,3 +129,13 @@ pub met_told : (n e : ℕ) (c : Option Cond) (rows found : Tables) (told : Optio
     → MeetsBelow n e c → found ≡ met e c rows → IfSome told (λ m. found ≡ met e c m)
 met_told n e c rows found None o p a f g = tt
 met_told n e c rows found (Some m) o p a f g = g ∙ met_of n e c rows m p o a f
+
+-- the rows of an index as a snapshot, and what is listed of one
+pub snapshot_of : (n : ℕ) (rows : Tables) (told : Option Tables) → IfSome told (λ m. in_order m ≡ true) → IsIndexed n (Some rows) told → IsSnapshotOf told (record { rows = rows; entities = n })
+snapshot_of n rows None o a = tt
+snapshot_of n rows (Some m) o a = (o, a)
+
+pub snapshot_lists : (q : Query) (s : SnapshotState) (told : Option Tables) (cells : List Cell) → in_order s.rows ≡ true → ReadsBelow s.entities q → cells ≡ gives q (after_changes [] s.rows)
+    → IsSnapshotOf told s → IsListed told [] q (Listed.List cells)
+snapshot_lists q s None cells o f e a = tt
+snapshot_lists q s (Some m) cells o f e (p, a) = e ∙ gives_of s.entities q [] s.rows m o p a f

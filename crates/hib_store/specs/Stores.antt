@@ -5,7 +5,7 @@ use Rattle.std.specs.Map.{lookup}
 use Rattle.std.specs.Option.{option_map, option_map_or}
 use Rattle.std.specs.declared.alloc.AllocError.{AllocError}
 use Rattle.hib_base.specs.Keys.{same_key}
-use Rattle.hib_base.specs.Tables.{Tables, row_at, after_changes, commit_answer, key_of}
+use Rattle.hib_base.specs.Tables.{Tables, row_at, after_changes, commit_answer, in_order, key_of}
 use Rattle.hib_journal.specs.Query.{gives, reads, mentions}
 use Rattle.hib_store.specs.Types.{Key, Change, Commit, Cond, Query}
 use Rattle.hib_store.specs.declared.asking.Loaded.{Loaded}
@@ -124,3 +124,12 @@ StandsAfter Commit.Fault old new = new ≡ false
 abbrev pub StandsCommitted : Result Commit AllocError → Bool → Bool → Type 0
 StandsCommitted (Ok answer) old new = StandsAfter answer old new
 StandsCommitted (Err e) old new = new ≡ old
+
+-- what contracts see of a snapshot: the rows, and of how many entities they are
+pub record SnapshotState : Type 0 where
+  pub rows : Tables
+  pub entities : ℕ
+
+-- the rows of a snapshot are those of the first entities, if the keeper tells them
+abbrev pub IsSnapshotOf : Option Tables → SnapshotState → Type 0
+IsSnapshotOf told s = IfSome told (λ m. (in_order m ≡ true) × AreOf s.entities s.rows m)

@@ -4,10 +4,12 @@
 mod asking;
 mod last_list;
 mod queries;
+mod snapshot;
 mod store;
 mod views;
 mod written;
 
 pub use asking::Loaded;
 pub use queries::tables_of;
+pub use snapshot::Snapshot;
 pub use store::{Listed, OpenFault, Store};

@@ -7,6 +7,7 @@ ghost use Rattle.hib_outside.specs.Causes.{Rose};
 
 use crate::asking::{self, Loaded};
 use crate::last_list::{self, LastList};
+use crate::snapshot::Snapshot;
 use crate::written::Written;
 use crate::{queries, views, written};
 use hib_base::{Change, Commit, Cond, EntityNo, Key, Listing, Mapping, Query, Row, SessionNo};
@@ -71,7 +72,7 @@ impl<K: Keeper> Model for Store<K> {
 
 impl<K: Keeper> Store<K> {
     ghost use Rattle.hib_query_eval.specs.Met.{met};
-    ghost use Rattle.hib_store.specs.Stores.{changes_of, is_in, IsView, IsListed, ReadsBelow, MeetsBelow, StandsCommitted, names_change, tables_committed, handed_back, is_store_fault};
+    ghost use Rattle.hib_store.specs.Stores.{changes_of, is_in, IsView, IsListed, IsSnapshotOf, ReadsBelow, MeetsBelow, StandsCommitted, names_change, tables_committed, handed_back, is_store_fault};
     ghost use Rattle.hib_store.specs.declared.asking.Loaded.{Loaded};
     ghost use Rattle.hib_store.specs.declared.store.Listed.{Listed};
     ghost use Rattle.hib_store.specs.Types.{Commit};
@@ -248,6 +249,22 @@ impl<K: Keeper> Store<K> {
     {
         asking::make_index(alloc, &mut self.keeper, &mut self.index, self.entities)?;
         Ok(self.index.is_some())
+    }
+
+    /// The committed rows of the first entities, if the index of them stands. The store gives this index away: the next
+    /// list that asks for it makes it anew. Nothing else changes. It takes no memory.
+    pub fn give_snapshot(&mut self) -> Option<Snapshot>
+        ensures of { IfSome result (IsSnapshotOf self.old.tables) }
+        ensures there { is_some result ≡ self.old.indexed }
+        ensures indexed { self.new.indexed ≡ false }
+        ensures tables { self.new.tables ≡ self.old.tables }
+        ensures faults { self.new.faults ≡ self.old.faults }
+        ensures asked { self.new.asked ≡ self.old.asked }
+        ensures written { self.new.written ≡ self.old.written }
+        ensures entities { self.new.entities ≡ self.old.entities }
+    {
+        let index = self.index.take()?;
+        Some(Snapshot::of(index, self.entities))
     }
 
     /// The committed rows of an entity that meet a condition, if there is one, in order of keys. The entity, and those

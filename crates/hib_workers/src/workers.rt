@@ -1,5 +1,5 @@
 // Workers step the sessions of a factory, each a session at a time. It is what `work` does.
-ghost use Rattle.std.specs.Prelude.{◌≡◌, ◌≤◌, ◌<◌, ◌^◌, false, length, IfSome};
+ghost use Rattle.std.specs.Prelude.{◌≡◌, ◌≤◌, ◌<◌, ◌^◌, true, false, length, IfSome};
 ghost use denote.Param.Send.{IsSend};
 ghost use Rattle.hib_journal.specs.Kept.{past};
 ghost use Rattle.hib_session.specs.Bound.{outside_count};
@@ -176,6 +176,14 @@ fn serve<H: Handed, R: Wait, K: Keeper, N: Name, L: Listener, G: Gate>(
     }
 }
 
+/// How many steps of a session a worker makes at most before it gives the lock back: one, if the gate may hold it.
+fn steps_at_once<G: Gate>(gate: &G) -> u32
+    ensures one { G.holds gate.now ≡ true → result ≡ 1 }
+    ensures few { (1 ≤ result) × (result ≤ 64) }
+{
+    if gate.may_hold() { 1 } else { STEPS }
+}
+
 /// Steps a session to its end. The lock is free while the gate holds the worker.
 fn run_session<H: Handed, R: Wait, K: Keeper, N: Name, L: Listener, G: Gate>(
     rt: &R,
@@ -186,7 +194,7 @@ fn run_session<H: Handed, R: Wait, K: Keeper, N: Name, L: Listener, G: Gate>(
 ) -> Result<(), AllocError>
     requires { number < length N.script.sessions }
 {
-    let most = if gate.may_hold() { 1 } else { STEPS };
+    let most = steps_at_once(gate);
     let mut place = lock_soon(rt, &bench.desk).place_of(number);
     for _ in rt.forever() {
         gate.pass(number, place);
