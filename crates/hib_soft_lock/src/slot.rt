@@ -44,8 +44,8 @@ fn is_below(old: Option<u32>, new: Option<u32>) -> bool
     }
 }
 
-/// The row may be put: the key has an entry, so no other has to leave for it. It is late over a lock whose time was over
-/// although it was held, or let go after the reader began.
+/// The row may be put. The key has an entry, so no other has to leave for it. It is late over a lock whose time was
+/// over although it was held, or let go after the reader began.
 fn stored(late: bool) -> Put
     ensures { result ≡ PutSpec.Stored None late }
 {
