@@ -217,6 +217,26 @@ impl Change {
         }
     }
 
+    /// A copy of the row that it leaves; none after a delete. Fails for want of memory alone.
+    pub fn copy_left(&self, alloc: Global) -> Result<Option<Row>, AllocError>
+        ensures { IfOk result (λ r. r ≡ row_left self.now) }
+    {
+        match self {
+            Change::Insert { row, .. } | Change::Update { row, .. } => Ok(Some(row.copy(alloc)?)),
+            Change::Delete { .. } => Ok(None),
+        }
+    }
+
+    /// The row that it leaves, taken out of it; none after a delete.
+    pub fn into_row(self) -> Option<Row>
+        ensures { result ≡ row_left self }
+    {
+        match self {
+            Change::Insert { row, .. } | Change::Update { row, .. } => Some(row),
+            Change::Delete { .. } => None,
+        }
+    }
+
     /// An equal change. Fails for want of memory alone.
     pub fn copy(&self, alloc: Global) -> Result<Change, AllocError>
         ensures { IfOk result (λ c. c ≡ self.now) }

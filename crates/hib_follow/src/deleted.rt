@@ -11,25 +11,13 @@ ghost use Rattle.hib_follow.specs.Desks.{changes_at};
 
 use crate::desk::Desk;
 use crate::desks::Desks;
-use hib_base::{Act, Change, Commit, Entry, Key, Reply, SessionNo};
+use hib_base::{Act, Change, Entry, Key};
+use hib_journal::committer;
 use indexmap::IndexMap;
 use std::alloc::{AllocError, Global};
 
 /// By key, the number of the entry whose commit deleted it last.
 type Numbers = IndexMap<Key, u64>;
-
-/// The session whose commit is answered committed, if the entry is one.
-pub fn committer(entry: &Entry) -> Option<SessionNo>
-    ensures { result ≡ committer entry.now.act entry.now.reply entry.now.session }
-{
-    match &entry.act {
-        Act::Commit => match &entry.reply {
-            Reply::Commit(Commit::Committed) => entry.session,
-            _ => None,
-        },
-        _ => None,
-    }
-}
 
 /// Notes the key of a change that is committed, if it deletes it.
 fn note_change(numbers: &mut Numbers, since: u64, change: &Change) -> Result<(), AllocError>

@@ -11,7 +11,7 @@ mod known;
 mod marks;
 mod shelf;
 
-pub use deleted::{Deleted, committer};
+pub use deleted::Deleted;
 pub use desk::Desk;
 pub use desks::Desks;
 pub use holders::{Holders, Line};

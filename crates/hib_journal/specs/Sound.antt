@@ -1,5 +1,5 @@
 -- Which keys the claims speak of, and what they say of queries.
-use Rattle.std.specs.Prelude.{ℕ, Bool, true, false, if◌then◌else◌, not, ◌&&◌, ◌||◌, ◌==◌, List, [], ◌∷◌, Some, Option, option_and_then, drop, slice_get}
+use Rattle.std.specs.Prelude.{ℕ, Bool, true, false, if◌then◌else◌, not, ◌&&◌, ◌||◌, ◌==◌, List, [], ◌∷◌, Some, None, Option, option_and_then, drop, slice_get}
 use Rattle.std.specs.Option.{option_map_or}
 use Rattle.std.specs.List.{list_any, filter, list_all}
 use Rattle.hib_journal.specs.Types.{Key, Change, Act, Entry}
@@ -13,6 +13,11 @@ abbrev pub is_calm : Touch → Bool
 is_calm (Touch.Stores r late) = not late
 is_calm Touch.Expires = false
 is_calm _ = true
+
+-- whether what an entry does to a key, if anything, leaves it sound
+abbrev pub leaves_calm : Option Touch → Bool
+leaves_calm None = true
+leaves_calm (Some t) = is_calm t
 
 abbrev pub deletes_key : Key → Change → Bool
 deletes_key k (Change.Delete j v) = same_key j k

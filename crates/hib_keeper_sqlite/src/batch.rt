@@ -1,6 +1,6 @@
 // Rows and changes in one transaction, over the statements of the table.
 ghost use Rattle.std.specs.Prelude.{◌≡◌, ◌≢◌, ◌<◌, ◌≤◌, ◌^◌, ℕ, None, true, length, All, IfOk, IfSome, OnOk, OnErr};
-ghost use Rattle.hib_base.specs.Tables.{row_at, key_of, same_version, after_change, after_changes, unless_there, with_absent};
+ghost use Rattle.hib_base.specs.Tables.{row_at, key_of, after_change, after_changes, unless_there, with_absent};
 ghost use Rattle.hib_base.specs.Start.{start};
 ghost use Rattle.hib_outside.specs.Verdicts.{unless_as_expected, refused_at, verdict, after_applied, IsPlace};
 ghost use Rattle.hib_outside.specs.declared.keeper.Applied.TheVariants.{Done};
@@ -14,16 +14,6 @@ use hib_sqlite_rows::{RowTable, read};
 use sqlite::Error;
 use std::alloc::Global;
 
-fn is_same_version(a: Option<u32>, b: Option<u32>) -> bool
-    ensures { result ≡ same_version a b }
-{
-    match (a, b) {
-        (None, None) => true,
-        (Some(a), Some(b)) => a == b,
-        _ => false,
-    }
-}
-
 /// What is answered to a change that expects a version, by the row that it meets; none if it applies.
 fn unless_expected(at: usize, expected: Option<u32>, found: &Option<Row>) -> Option<Applied>
     ensures value { result ≡ unless_as_expected at expected found.now }
@@ -36,7 +26,7 @@ fn unless_expected(at: usize, expected: Option<u32>, found: &Option<Row>) -> Opt
             there: false,
         }),
         Some(row) => {
-            if is_same_version(expected, row.version) {
+            if expected == row.version {
                 None
             } else {
                 Some(Applied::Stale {

@@ -1,7 +1,6 @@
 // On what the instances of a session rest, by key: the row that it read or wrote last. If another row is committed when
 // it commits a change that rests on it, an update is lost.
 ghost use Rattle.hib_base.specs.Keys.{same_key};
-ghost use Rattle.hib_journal.specs.Held.{is_break};
 ghost use Rattle.hib_journal.specs.Types.{Entry, Key};
 ghost use Rattle.hib_order_judge.specs.Footings.{basis_after, basis_at, basis_here, basis_of, basis_written};
 ghost use Rattle.hib_order_judge.specs.Footings.{rest_after, rest_at, row_from, row_given, touched};
@@ -11,7 +10,8 @@ ghost use Rattle.std.specs.Option.{option_or};
 ghost use Rattle.std.specs.Prelude.{◌≡◌, if◌then◌else◌, List, None, Some, OnOk, option_and_then, option_copied};
 ghost use Rattle.std.specs.Prelude.{option_map, slice_get};
 
-use hib_base::{Act, Change, Commit, Entry, Key, Reply, Row};
+use hib_base::{Act, Change, Entry, Key, Reply, Row};
+use hib_journal::is_break;
 use indexmap::IndexMap;
 use std::alloc::AllocError;
 
@@ -53,18 +53,6 @@ pub fn row_from(entries: &[Entry], place: usize) -> Option<&Row>
     ensures { option_copied result ≡ row_from entries.now place }
 {
     row_given(entries.get(place)?)
-}
-
-/// Whether an entry lets all instances leave.
-fn is_break(act: &Act, reply: &Reply) -> bool
-    ensures { result ≡ is_break act.now reply.now }
-{
-    match act {
-        Act::Clear => true,
-        Act::Rollback => true,
-        Act::Commit => !matches!(reply, Reply::Commit(Commit::Committed)),
-        _ => false,
-    }
 }
 
 /// The key whose instance an act may change.

@@ -9,7 +9,7 @@ ghost use Rattle.hib_order_law.specs.Judged.{is_lost_update};
 ghost use Rattle.std.specs.Prelude.{◌≡◌, ◌∷◌, ◌||◌, [], IfOk, OnOk, false, true};
 
 use crate::dossiers::Dossiers;
-use crate::laying::{committer, rows_after};
+use crate::laying::rows_after;
 use crate::tests_of::{is_old_list, is_refused, is_stale_hit};
 use hib_base::{Entry, Key, Rows, Script};
 use hib_order_law::Verdicts;

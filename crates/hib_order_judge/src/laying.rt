@@ -1,27 +1,15 @@
 // The committed rows, after each commit.
 ghost use Rattle.hib_base.specs.Tables.{Tables, after_change, after_changes, in_order};
-ghost use Rattle.hib_journal.specs.Sessions.{Journal, committed, committer};
+ghost use Rattle.hib_journal.specs.Sessions.{Journal, committed};
 ghost use Rattle.hib_journal.specs.Types.{Entry};
 ghost use Rattle.hib_order_judge.specs.Dossiers.{AreDossiers, changes_at};
 ghost use Rattle.std.specs.Prelude.{◌≡◌, ◌∷◌, List, IfOk, OnOk, true};
 
 use crate::dossiers::Dossiers;
-use hib_base::{Act, Change, Commit, Entry, Key, Reply, Row, Rows, Seq, SessionNo};
+use hib_base::{Change, Entry, Key, Row, Rows, Seq};
+use hib_journal::committer;
 use hib_outside::keyed;
 use std::alloc::{AllocError, Global};
-
-/// The session whose commit is answered committed, if the entry is one.
-pub fn committer(entry: &Entry) -> Option<SessionNo>
-    ensures { result ≡ committer entry.now.act entry.now.reply entry.now.session }
-{
-    match &entry.act {
-        Act::Commit => match &entry.reply {
-            Reply::Commit(Commit::Committed) => entry.session,
-            _ => None,
-        },
-        _ => None,
-    }
-}
 
 /// Does a change. Its row is copied.
 fn lay(alloc: Global, rows: &mut Vec<(Key, Row)>, change: &Change) -> Result<(), AllocError>

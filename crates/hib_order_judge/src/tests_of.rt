@@ -1,5 +1,5 @@
 // The tests of one entry, over what is known of the entries before it.
-ghost use Rattle.hib_base.specs.Tables.{in_order, same_version};
+ghost use Rattle.hib_base.specs.Tables.{in_order};
 ghost use Rattle.hib_journal.specs.Held.{same_cells};
 ghost use Rattle.hib_order_law.specs.Judged.{is_refused_commit, old_by, same_row, stale_by};
 ghost use Rattle.std.specs.Prelude.{◌≡◌, IfOk, option_copied, true};
@@ -17,24 +17,13 @@ fn are_same(a: &[Cell], b: &[Cell]) -> bool
     *a == *b
 }
 
-/// Whether two versions are the same.
-fn is_same_version(a: Option<u32>, b: Option<u32>) -> bool
-    ensures { result ≡ same_version a b }
-{
-    match (a, b) {
-        (None, None) => true,
-        (Some(a), Some(b)) => a == b,
-        _ => false,
-    }
-}
-
 /// Whether there is a row, and it is this one.
 pub fn is_same(there: Option<&Row>, row: &Row) -> bool
     ensures { result ≡ same_row (option_copied there.entry) row.now }
 {
     match there {
         None => false,
-        Some(other) => is_same_version(other.version, row.version)
+        Some(other) => other.version == row.version
             && are_same(other.cells.as_slice(), row.cells.as_slice()),
     }
 }

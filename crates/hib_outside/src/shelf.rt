@@ -4,7 +4,7 @@ ghost use Rattle.std.specs.Map.{lookup};
 ghost use Rattle.std.specs.Prelude.{◌≡◌, ◌+◌, ◌≤◌, ◌<◌, ℕ, true, length, take, [], if◌then◌else◌, Some, None, IfOk, IfSome, OnOk, OnErr, vec_len, vec_capacity, option_copied};
 ghost use Rattle.hib_base.specs.Keys.{same_key};
 ghost use Rattle.hib_base.specs.declared.numbers.Key.{Key as KeyOf};
-ghost use Rattle.hib_base.specs.Tables.{in_order, row_at, row_left, same_version, after_change, after_changes, unless_there, with_absent};
+ghost use Rattle.hib_base.specs.Tables.{in_order, row_at, same_version, after_change, after_changes, unless_there, with_absent};
 ghost use Rattle.hib_base.specs.Start.{widened_entry, widened};
 ghost use Rattle.hib_outside.specs.Keeps.{rows_of, is_listed};
 ghost use Rattle.hib_outside.specs.Verdicts.{refused_at, verdict, IsPlace};
@@ -184,16 +184,6 @@ fn is_of(key: &Key, entities: &[EntityNo]) -> bool
     entities.contains(&key.entity)
 }
 
-/// The row that a change leaves, taken out of it.
-fn into_row(change: Change) -> Option<Row>
-    ensures { result ≡ row_left change }
-{
-    match change {
-        Change::Insert { row, .. } | Change::Update { row, .. } => Some(row),
-        Change::Delete { .. } => None,
-    }
-}
-
 /// Does a change. There must be room for one row more.
 fn change_one(rows: &mut Vec<(Key, Row)>, change: Change)
     requires ordered { in_order rows.old.items ≡ true }
@@ -203,7 +193,7 @@ fn change_one(rows: &mut Vec<(Key, Row)>, change: Change)
     ensures capacity { vec_capacity rows.new ≡ vec_capacity rows.old }
 {
     let key = change.key();
-    match into_row(change) {
+    match change.into_row() {
         Some(row) => put(rows, key, row),
         None => take_out(rows, &key),
     }
@@ -250,7 +240,7 @@ fn sweep(rows: &mut Vec<(Key, Row)>, back: &mut Vec<(Key, Row)>, changes: Vec<Ch
 {
     for change in changes {
         let key = change.key();
-        parted::set(rows, back, key, into_row(change));
+        parted::set(rows, back, key, change.into_row());
     }
     parted::join(rows, back);
 }

@@ -1,6 +1,6 @@
 // Rows and the places of their cells, as changes are done to them: by a commit, or in what a session sees.
 ghost use Rattle.std.specs.Prelude.{◌≡◌, true, is_none, IfOk, OnOk, option_copied};
-ghost use Rattle.hib_base.specs.Tables.{in_order, same_version, refusal, tables_with, after_change};
+ghost use Rattle.hib_base.specs.Tables.{in_order, refusal, tables_with, after_change};
 ghost use Rattle.hib_query_eval.specs.Applies.{applies};
 ghost use Rattle.hib_query_eval.specs.Places.{AreIndexes};
 
@@ -9,25 +9,14 @@ use hib_base::{Change, Key, Row};
 use hib_outside::keyed;
 use std::alloc::{AllocError, Global};
 
-/// Whether the version that a change expects is the one that was found.
-fn is_same_version(expected: Option<u32>, found: Option<u32>) -> bool
-    ensures { result ≡ same_version expected found }
-{
-    match (expected, found) {
-        (None, None) => true,
-        (Some(a), Some(b)) => a == b,
-        _ => false,
-    }
-}
-
 /// Whether a change applies to the row of its key.
 fn applies(change: &Change, found: Option<&Row>) -> bool
     ensures { result ≡ applies change.now (option_copied found.entry) }
 {
     match (change, found) {
         (Change::Insert { .. }, found) => found.is_none(),
-        (Change::Update { expected, .. } | Change::Delete { expected, .. }, Some(row)) =>
-            is_same_version(*expected, row.version),
+        (Change::Update { expected, .. } | Change::Delete { expected, .. }, Some(row)) => *expected
+            == row.version,
         (Change::Update { .. } | Change::Delete { .. }, None) => false,
     }
 }

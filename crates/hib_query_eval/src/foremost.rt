@@ -132,12 +132,7 @@ struct Reach {
 }
 
 /// The part of a column's places along which a walk goes: from where it begins up to the column's end.
-fn ahead<'a>(
-    query: &Query,
-    sort: &Sort,
-    places: &'a BTreeSet<Place>,
-    start: Option<Value>,
-) -> Range<'a, Place> {
+fn ahead<'a>(sort: &Sort, places: &'a BTreeSet<Place>, start: Option<Value>) -> Range<'a, Place> {
     if sort.desc {
         let to = start.unwrap_or(Value::Greatest);
         return places::between(places, Value::Least, to);
@@ -198,7 +193,7 @@ fn likely_last<'a>(
         Some(_) => false,
         None => true,
     };
-    let found = ahead(query, sort, places, start);
+    let found = ahead(sort, places, start);
     let reach = Reach {
         most,
         steps,

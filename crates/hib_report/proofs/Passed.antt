@@ -1,33 +1,18 @@
 -- Loops over a journal from its oldest entry on: what they know is what the definitions say of the entries behind them.
 use Rattle.std.specs.Option.{option_map_or}
-use Rattle.std.proofs.Common.{◌≡◌, refl, ℕ, ◌+◌, ◌<◌, Bool, true, false, not, cond, ◌&&◌, ◌||◌, Some, None, Option, List, [], ◌∷◌, reverse, take, length, get_or, ◌∙◌, ap}
+use Rattle.std.proofs.Common.{◌≡◌, refl, ℕ, ◌+◌, ◌<◌, Bool, true, false, cond, ◌&&◌, ◌||◌, Some, None, Option, List, [], ◌∷◌, reverse, take, length, get_or, ◌∙◌, ap}
 use Rattle.std.specs.List.{list_any, list_all}
 use Rattle.std.proofs.Math.Bool.{or_comm, or-false}
 use Rattle.std.proofs.lemmas.List.{take_more, reverse-append}
 use Rattle.std.proofs.lemmas.List.Folds.{list_any-append}
-use Rattle.hib_journal.specs.Types.{Key, Change, Act, Reply, Put, Unlocked, Inserted, Updated, Evicted, Entry}
+use Rattle.hib_journal.specs.Types.{Key, Change, Act, Entry}
 use Rattle.hib_journal.specs.Sessions.{Journal, is_by, own, changes_after, changes_in, changes, is_restart}
-use Rattle.hib_journal.specs.Slot.{Touch, History, touch_here, touch, history}
-use Rattle.hib_journal.specs.Sound.{is_calm}
-use Rattle.hib_report.specs.Unsound.{leaves_calm, is_upset}
+use Rattle.hib_journal.specs.Slot.{Touch, History, touch, history}
+use Rattle.hib_journal.specs.Sound.{is_calm, leaves_calm}
 
 -- one more entry stands at the head of the past
 pub reverse_more : {X : Type 0} → (xs : List X) (i : ℕ) (d : X) → i < length xs → reverse (take (i + 1) xs) ≡ get_or xs i d ∷ reverse (take i xs)
 reverse_more xs i d h = ap reverse (take_more xs i d h) ∙ reverse-append (take i xs) (get_or xs i d ∷ [])
-
--- only an answer that says so upsets a key
-pub calm_here : (a : Act) (r : Reply) → leaves_calm (touch_here a r) ≡ not (is_upset a r)
-calm_here (Act.Put k r t f) (Reply.Put (Put.Stored v late)) = refl
-calm_here (Act.AfterInsert k r f) (Reply.Inserted (Inserted.Stored v)) = refl
-calm_here (Act.AfterUpdate k i r) (Reply.Updated Updated.Stored) = refl
-calm_here (Act.AfterUpdate k i r) (Reply.Updated (Updated.Shared n)) = refl
-calm_here (Act.AfterUpdate k i r) (Reply.Updated Updated.Expired) = refl
-calm_here (Act.Lock k v f) (Reply.Locked l) = refl
-calm_here (Act.Unlock k i) (Reply.Unlocked (Unlocked.Released n)) = refl
-calm_here (Act.Unlock k i) (Reply.Unlocked Unlocked.Expired) = refl
-calm_here (Act.Evict k) (Reply.Evicted Evicted.Gone) = refl
-calm_here (Act.RegionRemove k) Reply.Dropped = refl
-calm_here _ _ = refl
 
 abbrev calm_touched : (restarted : Bool) (o : Option Touch) (now : ℕ) (s : History) → Type 0
 calm_touched restarted o now s = list_all (λ x. is_calm x.0) (cond restarted [] (option_map_or (λ t. (t, now) ∷ s) o s)) ≡ cond restarted true (leaves_calm o && list_all (λ t. is_calm t.0) s)

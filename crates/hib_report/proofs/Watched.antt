@@ -11,10 +11,9 @@ use Rattle.hib_base.proofs.Tables.{Tested, tested, same_key_eq}
 use Rattle.hib_journal.specs.Types.{Key, Change, Act, Reply, Entry}
 use Rattle.hib_journal.specs.Sessions.{Journal, is_by, is_restart, committer, changes}
 use Rattle.hib_journal.specs.Slot.{touch, history}
-use Rattle.hib_journal.specs.Sound.{was_deleted, was_reused, inserts_key, deletes_key, is_calm, is_sound}
+use Rattle.hib_journal.specs.Sound.{was_deleted, was_reused, inserts_key, deletes_key, is_calm, is_sound, leaves_calm}
 use Rattle.hib_report.specs.declared.watch.Course.{Course}
 use Rattle.hib_report.specs.declared.watch.Written.{Written}
-use Rattle.hib_report.specs.Unsound.{leaves_calm}
 use Rattle.hib_report.specs.Watch.{Courses, Writers, fresh, course_at, written_at, reused_if, calm_if, committed_by, act_noted, names_key, Watches}
 use Rattle.hib_report.proofs.Passed.{calm_more, wrote_by, wrote_more}
 

@@ -12,8 +12,8 @@ use Rattle.hib_journal.specs.Types.{Key, Change, Act, Reply, Script}
 use Rattle.hib_journal.specs.Sessions.{Journal, is_by, changes, committer, is_restart}
 use Rattle.hib_journal.specs.Slot.{Touch, key_in, evicted_in, history, touch_at}
 use Rattle.hib_journal.specs.Next.{strategy}
-use Rattle.hib_journal.specs.Sound.{deletes_key, inserts_key, commits, was_deleted, was_reused, is_sound, is_calm}
-use Rattle.hib_report.specs.Unsound.{named, is_read_write, with_key, with_named, keys_in, unsound, leaves_calm}
+use Rattle.hib_journal.specs.Sound.{deletes_key, inserts_key, commits, was_deleted, was_reused, is_sound, is_calm, leaves_calm}
+use Rattle.hib_report.specs.Unsound.{named, is_read_write, with_key, with_named, keys_in, unsound}
 use Rattle.hib_report.proofs.Passed.{calm_more, wrote_by, wrote_more}
 
 abbrev pub is_there : Key → List Key → Bool

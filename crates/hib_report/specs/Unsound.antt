@@ -4,11 +4,11 @@ use Rattle.std.specs.List.{filter}
 use Rattle.std.specs.Fmt.{decimal}
 use Rattle.hib_base.specs.Keys.{same_key, is_before}
 use Rattle.hib_base.specs.Tables.{key_of}
-use Rattle.hib_journal.specs.Types.{Key, Strategy, Act, Put, Unlocked, Updated, Reply, Script}
+use Rattle.hib_journal.specs.Types.{Key, Strategy, Act, Script}
 use Rattle.hib_journal.specs.Sessions.{Journal}
-use Rattle.hib_journal.specs.Slot.{Touch, key_in}
+use Rattle.hib_journal.specs.Slot.{key_in}
 use Rattle.hib_journal.specs.Next.{strategy}
-use Rattle.hib_journal.specs.Sound.{is_calm, is_sound}
+use Rattle.hib_journal.specs.Sound.{is_sound}
 use Rattle.hib_texts.specs.Texts.{key_text}
 
 -- the key that an act names, in a region or in a change of the store
@@ -45,29 +45,3 @@ unsound script past = filter (λ k. not (is_sound k past)) (keys_in script past)
 abbrev pub unsound_text : Script → Journal → List ℕ
 unsound_text script past =
     codes "unsound " ++ decimal (length (unsound script past)) ++ codes "\n" ++ flat_map (λ k. key_text script k ++ codes "\n") (unsound script past)
-
--- steps on the way to a key's soundness
-
-abbrev pub is_late : Reply → Bool
-is_late (Reply.Put (Put.Stored i late)) = late
-is_late _ = false
-
-abbrev pub is_release_expired : Reply → Bool
-is_release_expired (Reply.Unlocked Unlocked.Expired) = true
-is_release_expired _ = false
-
-abbrev pub is_update_expired : Reply → Bool
-is_update_expired (Reply.Updated Updated.Expired) = true
-is_update_expired _ = false
-
--- whether an answer on a key is Expired, or Stored with the late mark
-abbrev pub is_upset : Act → Reply → Bool
-is_upset (Act.Put k r t f) reply = is_late reply
-is_upset (Act.Unlock k i) reply = is_release_expired reply
-is_upset (Act.AfterUpdate k i r) reply = is_update_expired reply
-is_upset _ reply = false
-
--- whether what an entry does to a key, if anything, leaves it sound
-abbrev pub leaves_calm : Option Touch → Bool
-leaves_calm None = true
-leaves_calm (Some t) = is_calm t

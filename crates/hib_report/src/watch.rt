@@ -6,11 +6,11 @@ ghost use Rattle.hib_base.specs.Keys.{same_key};
 ghost use Rattle.hib_journal.specs.Types.{Key};
 ghost use Rattle.hib_journal.specs.Sessions.{Journal, is_by, is_restart, committer};
 ghost use Rattle.hib_journal.specs.Slot.{touch};
-ghost use Rattle.hib_journal.specs.Sound.{is_sound};
-ghost use Rattle.hib_report.specs.Unsound.{is_upset, leaves_calm};
+ghost use Rattle.hib_journal.specs.Sound.{is_sound, leaves_calm};
 ghost use Rattle.hib_report.specs.Watch.{fresh, course_at, written_at, reused_if, deleted_if, calm_if, change_noted, act_noted, nothing_written, names_key, not_named, committed_by, Watches};
 
-use hib_base::{Act, Change, Commit, Entry, Key, Put, Reply, Seq, SessionNo, Unlocked, Updated};
+use hib_base::{Act, Change, Entry, Key, Seq, SessionNo};
+use hib_journal::{committer, is_upset};
 use hib_listeners::key_in;
 use indexmap::IndexMap;
 use std::alloc::{AllocError, Global};
@@ -135,18 +135,6 @@ fn delete_all(courses: &mut Courses, keys: &[Key]) -> Result<(), AllocError>
     Ok(())
 }
 
-/// Whether an answer tells that a lock ran out before its time.
-fn is_upset(act: &Act, reply: &Reply) -> bool
-    ensures { result ≡ is_upset act.now reply.now }
-{
-    match act {
-        Act::Put { .. } => matches!(reply, Reply::Put(Put::Stored { late: true, .. })),
-        Act::Unlock { .. } => matches!(reply, Reply::Unlocked(Unlocked::Expired)),
-        Act::AfterUpdate { .. } => matches!(reply, Reply::Updated(Updated::Expired)),
-        _ => false,
-    }
-}
-
 /// The key on which an entry tells that a lock ran out before its time, if it does.
 fn upset_key(entry: &Entry) -> Option<Key>
     ensures { (k : Key) → leaves_calm (touch k entry.now) ≡ not_named k result }
@@ -184,19 +172,6 @@ fn upset(courses: &mut Courses, key: &Key) -> Result<(), AllocError>
 {
     let course = course_of(courses, *key).upset();
     set_course(courses, *key, course)
-}
-
-/// The session of an entry that commits, if it is one.
-fn committer(entry: &Entry) -> Option<SessionNo>
-    ensures { result ≡ committer entry.now.act entry.now.reply entry.now.session }
-{
-    match &entry.act {
-        Act::Commit => match &entry.reply {
-            Reply::Commit(Commit::Committed) => entry.session,
-            _ => None,
-        },
-        _ => None,
-    }
 }
 
 /// The keys that sessions have written since their last Begin, by the sessions' numbers.

@@ -10,7 +10,7 @@ ghost use Rattle.hib_rw_region.specs.Steps.{empty, with_slot, without, new_item,
 
 use crate::{queue, slots};
 use hib_base::{Evicted, Got, Inserted, Locked, Miss, Put, Row, Tick, Unlocked, Updated};
-use hib_soft_lock::{Slot, Verdict};
+use hib_soft_lock::Slot;
 use indexmap::IndexMap;
 use std::alloc::{AllocError, Global};
 use std::marker::Model;
@@ -156,24 +156,16 @@ impl RwRegion {
                 }),
             };
         };
-        match slot.writable(time, row.version) {
-            Verdict::Yes { late } => {
-                queue::set(
-                    &mut self.front,
-                    &mut self.back,
-                    id,
-                    Slot::Item { row, stamp: now },
-                )?;
-                Ok(Put::Stored {
-                    evicted: None,
-                    late,
-                })
-            }
-            Verdict::Present { version } => Ok(Put::Present { version }),
-            Verdict::Held { holders } => Ok(Put::Held { holders }),
-            Verdict::Early { unlock } => Ok(Put::Early { unlock }),
-            Verdict::Old { version } => Ok(Put::Old { version }),
+        let put = slot.writable(time, row.version);
+        if let Put::Stored { .. } = put {
+            queue::set(
+                &mut self.front,
+                &mut self.back,
+                id,
+                Slot::Item { row, stamp: now },
+            )?;
         }
+        Ok(put)
     }
 
     /// Takes the lock of a key, for a session whose base has this version. A new key gets a lock whether or not

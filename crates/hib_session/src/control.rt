@@ -114,7 +114,7 @@ fn answering(script: &Script, memory: &Memory, mode: Mode, stage: Stage) -> Stag
 {
     match stage {
         Stage::Answering(query) => {
-            if memory.frees(script, query, mode.reads()) {
+            if memory.may_use_results(script, query, mode.reads()) {
                 Stage::Looking(query)
             } else {
                 Stage::Listing(query)

@@ -10,9 +10,9 @@ ghost use Rattle.hib_session.specs.Memory.{arrive_in, remove_in, with_pairs};
 ghost use Rattle.hib_session.specs.Queries.{touches as touching};
 
 use crate::keyed::{give_back, is_among};
-use crate::queries::reads;
 use hib_base::{Cells, Held, Key, Query, Row, Sets, State};
 use hib_identity_map::IdentityMap;
+use hib_journal::reads;
 use indexmap::IndexSet;
 use std::alloc::{AllocError, Global};
 use std::marker::Model;

@@ -185,7 +185,7 @@ impl Memory {
 
     /// Whether a query may use its kept results: it keeps some, the mode allows it, and the session has changed no
     /// table that it reads.
-    pub fn frees(&self, script: &Script, query: QueryNo, by_mode: bool) -> bool
+    pub fn may_use_results(&self, script: &Script, query: QueryNo, by_mode: bool) -> bool
         ensures { (mine : Journal) → Recalls self.now mine
             → result ≡ is_free script.now query by_mode mine }
     {

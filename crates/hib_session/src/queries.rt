@@ -1,50 +1,11 @@
 // Which tables a query reads, to know whether it must be preceded by a flush, and whether kept results may answer it.
-ghost use Rattle.std.specs.Prelude.{◌≡◌, length, slice_get, ◌==◌, false, option_copied};
+ghost use Rattle.std.specs.Prelude.{◌≡◌, length, slice_get, false, option_copied};
 ghost use Rattle.std.specs.Option.{option_map_or};
-ghost use Rattle.hib_journal.specs.Query.{mentions as mentioned, reads as is_read, mentions};
 ghost use Rattle.hib_journal.specs.Next.{is_in_tables, tables_of};
 ghost use Rattle.hib_session.specs.Queries.{touches as touching, touching_in};
 
-use hib_base::{Change, Cond, EntityNo, Query, QueryNo, Script, Target};
-
-/// Whether a reference leads to an entity.
-fn is_target(target: Option<Target>, entity: EntityNo) -> bool
-    ensures { result ≡ option_map_or (λ g. g.entity == entity) target false }
-{
-    match target {
-        Some(target) => target.entity == entity,
-        None => false,
-    }
-}
-
-/// Whether a condition follows a reference to an entity.
-fn mentions(condition: &Cond, entity: EntityNo) -> bool
-    ensures { result ≡ mentioned entity condition.now }
-{
-    match condition {
-        Cond::And(a, b) | Cond::Or(a, b) => mentions(a, entity) || mentions(b, entity),
-        Cond::Not(a) => mentions(a, entity),
-        Cond::Test { path, .. } => is_target(path.target, entity),
-        Cond::Among { path, .. } => is_target(path.target, entity),
-    }
-}
-
-/// Whether a query's condition, if it has one, follows a reference to an entity.
-fn conditions_on(condition: &Option<Cond>, entity: EntityNo) -> bool
-    ensures { result ≡ option_map_or (mentions entity) condition.now false }
-{
-    match condition {
-        Some(condition) => mentions(condition, entity),
-        None => false,
-    }
-}
-
-/// Whether a query reads a table.
-pub fn reads(query: &Query, entity: EntityNo) -> bool
-    ensures { result ≡ is_read query.now entity }
-{
-    query.entity == entity || conditions_on(&query.condition, entity)
-}
+use hib_base::{Change, Query, QueryNo, Script};
+use hib_journal::reads;
 
 /// Whether one of the changes is of a table that a query reads.
 fn touches(query: &Query, entities: usize, changes: &[Change]) -> bool

@@ -126,7 +126,7 @@ fn listed(
 {
     match reply {
         Reply::Listed(list) => {
-            if !memory.frees(script, query, mode.puts()) {
+            if !memory.may_use_results(script, query, mode.puts()) {
                 return Ok(Seq::new(alloc));
             }
             let list = copy_cells(alloc, list)?;

@@ -14,16 +14,6 @@ pub struct Written {
     pub base: Option<Row>,
 }
 
-/// The row that a change leaves, if it leaves one.
-fn left_row(alloc: Global, change: &Change) -> Result<Option<Row>, AllocError>
-    ensures { IfOk result (λ r. r ≡ row_left change.now) }
-{
-    match change.row_left() {
-        Some(row) => Ok(Some(row.copy(alloc)?)),
-        None => Ok(None),
-    }
-}
-
 impl Written {
     /// The copies of a change.
     pub fn of(alloc: Global, change: &Change) -> Result<Written, AllocError>
@@ -31,7 +21,7 @@ impl Written {
     {
         Ok(Written {
             change: change.copy(alloc)?,
-            base: left_row(alloc, change)?,
+            base: change.copy_left(alloc)?,
         })
     }
 }

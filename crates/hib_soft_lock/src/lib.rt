@@ -3,4 +3,4 @@
 
 mod slot;
 
-pub use slot::{Slot, Verdict};
+pub use slot::Slot;

@@ -1,10 +1,11 @@
 // What a key of a read-write region holds. A soft lock is one on a key, and no lock of std's.
 ghost use Rattle.std.specs.Prelude.{◌≡◌, ◌≤◌, ◌<◌, ◌^◌, ℕ, None, Option, true};
 ghost use Rattle.hib_journal.specs.Regions as Regions;
-ghost use Rattle.hib_soft_lock.specs.Shown.{shown, verdict_put};
+ghost use Rattle.hib_journal.specs.Types.{Put as PutSpec};
+ghost use Rattle.hib_soft_lock.specs.Shown.{shown};
 ghost use Rattle.hib_soft_lock.specs.Steps.{new_lock, locked, released, holders_in, is_held};
 
-use hib_base::{Miss, Row, Tick};
+use hib_base::{Miss, Put, Row, Tick};
 
 /// What a key with an entry holds.
 #[derive(Drop)]
@@ -33,36 +34,6 @@ pub enum Slot {
     },
 }
 
-/// Whether a row that was loaded may be put.
-#[derive(Clone, Copy, Debug, PartialEq, Eq)]
-pub enum Verdict {
-    /// It may.
-    Yes {
-        /// Whether over a lock whose time was over although it was held, or let go after the reader began.
-        late: bool,
-    },
-    /// An item is there that isn't older.
-    Present {
-        /// Its version.
-        version: Option<u32>,
-    },
-    /// The key is locked.
-    Held {
-        /// How many hold the lock.
-        holders: u64,
-    },
-    /// The lock was let go after the reader began.
-    Early {
-        /// When that was.
-        unlock: Tick,
-    },
-    /// The lock stands for a row that isn't older.
-    Old {
-        /// The version of that row.
-        version: u32,
-    },
-}
-
 /// Whether a version is older than another, if there are both.
 fn is_below(old: Option<u32>, new: Option<u32>) -> bool
     ensures { result ≡ Regions.is_below old new }
@@ -70,6 +41,17 @@ fn is_below(old: Option<u32>, new: Option<u32>) -> bool
     match (old, new) {
         (Some(old), Some(new)) => old < new,
         _ => false,
+    }
+}
+
+/// The row may be put. The key has an entry, so no other has to leave for it. It is late over a lock whose time was
+/// over although it was held, or let go after the reader began.
+fn stored(late: bool) -> Put
+    ensures { result ≡ PutSpec.Stored None late }
+{
+    Put::Stored {
+        evicted: None,
+        late,
     }
 }
 
@@ -109,18 +91,16 @@ impl Slot {
         }
     }
 
-    /// Whether a row of this version, loaded by a reader that began at this time, may be put here. A lock names the
-    /// version that its first holder had read. If it was taken once more, a later row may have come, so then the time
-    /// decides and not the version.
-    pub fn writable(&self, time: Tick, version: Option<u32>) -> Verdict
+    /// The answer to a row of this version, loaded by a reader that began at this time, that is put here. A lock names
+    /// the version that its first holder had read. If it was taken once more, a later row may have come, so then the
+    /// time decides and not the version.
+    pub fn writable(&self, time: Tick, version: Option<u32>) -> Put
         ensures { (room : Option (Option ℕ))
-            → verdict_put result ≡ Regions.put (shown self.now) room time version }
+            → result ≡ Regions.put (shown self.now) room time version }
     {
         match self {
-            Slot::Item { row, .. } if is_below(row.version, version) => Verdict::Yes {
-                late: false,
-            },
-            Slot::Item { row, .. } => Verdict::Present {
+            Slot::Item { row, .. } if is_below(row.version, version) => stored(false),
+            Slot::Item { row, .. } => Put::Present {
                 version: row.version,
             },
             Slot::Lock {
@@ -128,23 +108,21 @@ impl Slot {
                 holders,
                 unlock,
                 ..
-            } if *timeout < time => Verdict::Yes {
-                late: *holders > 0 || time <= *unlock,
-            },
-            Slot::Lock { holders, .. } if *holders > 0 => Verdict::Held { holders: *holders },
+            } if *timeout < time => stored(*holders > 0 || time <= *unlock),
+            Slot::Lock { holders, .. } if *holders > 0 => Put::Held { holders: *holders },
             Slot::Lock {
                 version: Some(old),
                 shared: false,
                 ..
             } => {
                 if is_below(Some(*old), version) {
-                    Verdict::Yes { late: false }
+                    stored(false)
                 } else {
-                    Verdict::Old { version: *old }
+                    Put::Old { version: *old }
                 }
             }
-            Slot::Lock { unlock, .. } if *unlock < time => Verdict::Yes { late: false },
-            Slot::Lock { unlock, .. } => Verdict::Early { unlock: *unlock },
+            Slot::Lock { unlock, .. } if *unlock < time => stored(false),
+            Slot::Lock { unlock, .. } => Put::Early { unlock: *unlock },
         }
     }
 

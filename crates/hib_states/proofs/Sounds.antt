@@ -9,8 +9,7 @@ use Rattle.hib_base.proofs.Tables.{Tested, tested, same_key_eq}
 use Rattle.hib_journal.specs.Types.{Key, Change, Entry, Script}
 use Rattle.hib_journal.specs.Sessions.{Journal, is_restart, changes, committer}
 use Rattle.hib_journal.specs.Slot.{Touch, history, key_in, touch, touch_here, touch_at, evicted_in}
-use Rattle.hib_journal.specs.Sound.{commits, deletes_key, inserts_key, is_calm, is_sound, was_deleted, was_reused}
-use Rattle.hib_report.specs.Unsound.{leaves_calm}
+use Rattle.hib_journal.specs.Sound.{commits, deletes_key, inserts_key, is_calm, is_sound, leaves_calm, was_deleted, was_reused}
 use Rattle.hib_follow.specs.Deleted.{last_deleted}
 use Rattle.hib_states.specs.States.{is_guarded}
 use Rattle.hib_states.proofs.Choices.{and_true}

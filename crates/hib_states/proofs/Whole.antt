@@ -8,7 +8,7 @@ use Rattle.hib_journal.specs.Coherence.{holders}
 use Rattle.hib_journal.specs.Sessions.{Journal, changes}
 use Rattle.hib_journal.specs.Slot.{key_in, touch_here}
 use Rattle.hib_journal.specs.Stamps.{stamp}
-use Rattle.hib_report.specs.Unsound.{leaves_calm}
+use Rattle.hib_journal.specs.Sound.{leaves_calm}
 use Rattle.hib_follow.specs.Cached.{cached}
 use Rattle.hib_follow.specs.Holders.{locked_in}
 use Rattle.hib_follow.specs.Newest.{tables_in}

@@ -10,7 +10,8 @@ use Rattle.hib_journal.specs.Next.{strategy}
 use Rattle.hib_journal.specs.Coherence.{holders}
 use Rattle.hib_journal.specs.Held.{held, is_break}
 use Rattle.hib_journal.specs.Legal.{row_of}
-use Rattle.hib_report.specs.Unsound.{is_read_write, leaves_calm}
+use Rattle.hib_journal.specs.Sound.{leaves_calm}
+use Rattle.hib_report.specs.Unsound.{is_read_write}
 use Rattle.hib_journal.specs.Stamps.{stamp}
 use Rattle.hib_journal.specs.Results.{result}
 use Rattle.hib_follow.specs.Cached.{cached}

@@ -20,7 +20,8 @@ use crate::lines::{
     put_restarted, put_stamped, put_written,
 };
 use hib_base::{Act, EntityNo, Entry, Key, Listing, QueryNo, Reply, Script, SessionNo, Tick};
-use hib_follow::{Desk, Desks, Holders, Known, Shelf, Stamps, committer, key_in, leaving, touched};
+use hib_follow::{Desk, Desks, Holders, Known, Shelf, Stamps, key_in, leaving, touched};
+use hib_journal::committer;
 use std::alloc::{AllocError, Global};
 
 // ---- committed rows

@@ -1,7 +1,6 @@
 // The sessions' own copies of keys, which are their instances: the one that an entry has changed, or that all are gone.
 ghost use Rattle.std.specs.Prelude.{◌≡◌, ◌∷◌, ◌++◌, ◌<◌, false, Some, OnOk, length};
 ghost use Rattle.hib_base.specs.Tables.{Tables};
-ghost use Rattle.hib_journal.specs.Held.{is_break};
 ghost use Rattle.hib_journal.specs.Legal.{IsLegal};
 ghost use Rattle.hib_journal.specs.Sessions.{Journal, was_killed};
 ghost use Rattle.hib_states.specs.Seats.{AreSeats};
@@ -10,7 +9,8 @@ ghost use Rattle.hib_states.specs.Texts.{fact_text};
 
 use crate::lines::{put_copy, put_emptied};
 use crate::seats::Seats;
-use hib_base::{Act, Commit, Entry, Key, Reply, Script, SessionNo};
+use hib_base::{Act, Entry, Key, Reply, Script, SessionNo};
+use hib_journal::is_break;
 use std::alloc::{AllocError, Global};
 
 /// The key of which a session has another copy by its act.
@@ -25,17 +25,6 @@ fn copied_in(entry: &Entry) -> Option<Key>
         (Act::Remove { key }, Reply::Removed) => Some(*key),
         (Act::Write(change), _) => Some(change.key()),
         _ => None,
-    }
-}
-
-/// Whether an entry empties the copies of its session.
-fn is_break(entry: &Entry) -> bool
-    ensures { result ≡ is_break entry.now.act entry.now.reply }
-{
-    match &entry.act {
-        Act::Clear | Act::Rollback => true,
-        Act::Commit => !matches!(&entry.reply, Reply::Commit(Commit::Committed)),
-        _ => false,
     }
 }
 
@@ -74,7 +63,7 @@ fn put_break(
     ensures { OnOk result (out.new.items
         ≡ out.old.items ++ fact_text script.now number (emptied_by entry.now.act entry.now.reply session)) }
 {
-    if is_break(entry) {
+    if is_break(&entry.act, &entry.reply) {
         put_emptied(alloc, out, script, number, session)
     } else {
         Ok(())

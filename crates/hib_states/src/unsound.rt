@@ -1,20 +1,17 @@
 // The keys of which the claims on the cache don't speak from an entry on.
-ghost use Rattle.std.specs.Prelude.{◌≡◌, ◌++◌, not, OnOk, flat_map};
+ghost use Rattle.std.specs.Prelude.{◌≡◌, ◌++◌, OnOk, flat_map};
 ghost use Rattle.std.specs.Borrow.{Bor};
 ghost use Rattle.hib_follow.specs.Deleted.{committed_at};
 ghost use Rattle.hib_journal.specs.Sessions.{committer};
-ghost use Rattle.hib_journal.specs.Slot.{touch_here};
 ghost use Rattle.hib_journal.specs.Types.{Change};
-ghost use Rattle.hib_report.specs.Unsound.{leaves_calm};
 ghost use Rattle.hib_states.specs.Here.{reused_here, unsound_here};
 ghost use Rattle.hib_states.specs.States.{expired_facts, is_guarded};
 ghost use Rattle.hib_states.specs.Texts.{fact_text};
 
 use crate::lines::put_unsound;
-use hib_base::{
-    Act, Change, Entry, Key, Put, Reply, Script, Strategy, Unlocked, Updated, strategy_of,
-};
-use hib_follow::{Deleted, Desk, Desks, Known, committer, key_in};
+use hib_base::{Change, Entry, Key, Script, Strategy, strategy_of};
+use hib_follow::{Deleted, Desk, Desks, Known, key_in};
+use hib_journal::{committer, is_upset};
 use std::alloc::{AllocError, Global};
 
 /// Whether a key is of a read-write entity, as each unsound key is.
@@ -22,18 +19,6 @@ fn is_guarded(script: &Script, key: &Key) -> bool
     ensures { result ≡ is_guarded script.now key.now }
 {
     strategy_of(script.mapping.as_slice(), key.entity) == Strategy::ReadWrite
-}
-
-/// Whether an answer tells that a lock had run out.
-fn is_upset(entry: &Entry) -> bool
-    ensures { result ≡ not (leaves_calm (touch_here entry.now.act entry.now.reply)) }
-{
-    match &entry.act {
-        Act::Put { .. } => matches!(&entry.reply, Reply::Put(Put::Stored { late: true, .. })),
-        Act::Unlock { .. } => matches!(&entry.reply, Reply::Unlocked(Unlocked::Expired)),
-        Act::AfterUpdate { .. } => matches!(&entry.reply, Reply::Updated(Updated::Expired)),
-        _ => false,
-    }
 }
 
 /// The key that an entry names, if a lock on it had run out.
@@ -50,7 +35,7 @@ fn put_expired(
     match key_in(&entry.act) {
         None => Ok(()),
         Some(key) => {
-            if is_guarded(script, &key) && is_upset(entry) {
+            if is_guarded(script, &key) && is_upset(&entry.act, &entry.reply) {
                 put_unsound(alloc, out, script, number, &key, None)
             } else {
                 Ok(())

@@ -179,7 +179,7 @@ impl<K: Keeper> Store<K> {
     {
         let changes = written::changes_of(&self.written, session);
         if let Some(change) = written::last_change(changes, &key) {
-            return Ok(Loaded::Row(written::copy_left(alloc, change)?));
+            return Ok(Loaded::Row(change.copy_left(alloc)?));
         }
         asking::read(alloc, &mut self.keeper, key)
     }

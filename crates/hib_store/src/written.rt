@@ -1,10 +1,10 @@
 // The changes that sessions have written and not committed, by session.
-ghost use Rattle.std.specs.Prelude.{◌≡◌, ◌<◌, ◌++◌, ◌∷◌, ◌==◌, if◌then◌else◌, ℕ, [], IfOk, OnOk, OnErr, option_copied};
+ghost use Rattle.std.specs.Prelude.{◌≡◌, ◌<◌, ◌++◌, ◌∷◌, ◌==◌, if◌then◌else◌, ℕ, [], OnOk, OnErr, option_copied};
 ghost use Rattle.hib_base.specs.Keys.{same_key};
-ghost use Rattle.hib_base.specs.Tables.{last_on, row_left};
+ghost use Rattle.hib_base.specs.Tables.{last_on};
 ghost use Rattle.hib_store.specs.Stores.{changes_in, or_none};
 
-use hib_base::{Change, Key, Query, Row, SessionNo};
+use hib_base::{Change, Key, Query, SessionNo};
 use hib_query_eval::Own;
 use indexmap::IndexMap;
 use std::alloc::{AllocError, Global};
@@ -110,15 +110,4 @@ pub fn last_change<'a>(changes: &'a [Change], key: &Key) -> Option<&'a Change>
         }
     }
     None
-}
-
-/// A copy of the row that a change leaves, which a session that has made it reads from then on. None if it deletes
-/// the row.
-pub fn copy_left(alloc: Global, change: &Change) -> Result<Option<Row>, AllocError>
-    ensures { IfOk result (λ row. row ≡ row_left change.now) }
-{
-    match change {
-        Change::Insert { row, .. } | Change::Update { row, .. } => Ok(Some(row.copy(alloc)?)),
-        Change::Delete { .. } => Ok(None),
-    }
 }
