@@ -3,6 +3,7 @@
 use denote.RattleType.{RattleType}
 use denote.Param.Send.{IsSend, IsSync, sendable}
 use Rattle.std.proofs.Crossing.{crosses}
+use Rattle.core.proofs.once.OnceLock.TheSendSync.{the_sync as once_sync}
 use Rattle.hib_engines.proofs.Crossing.{journal_send, session_send, registry_send, stamps_send, results_send, region_send, engine_send, cell_sync, row_sync, snapshot_send, snapshot_sync}
 use Rattle.hib_base.specs.contracts.seq.Seq as SeqT
 use Rattle.hib_base.specs.contracts.scripts.ColumnDef as ColumnT
@@ -84,7 +85,7 @@ module _ (K : RattleType) (k : keeper.Ghosts K.Denot) (sk : IsSend K) where
     locked_sync = search (sendable, crosses, region_part_send) depth 100 fits 100000
 
     fields_sync : IsSync (LockedPartsT.the_field K N k n).row
-    fields_sync = search (sendable, crosses, registry_part_send, store_part_send, stamps_part_send, results_part_send, locked_sync, worker_send, ended_send, strange_send, start_rows_send, start_rows_sync) depth 100 fits 100000
+    fields_sync = search (sendable, crosses, registry_part_send, store_part_send, stamps_part_send, results_part_send, locked_sync, worker_send, ended_send, strange_send, once_sync, start_rows_send, start_rows_sync) depth 100 fits 100000
 
     pub locked_parts_sync : IsSync (LockedPartsT.the_row K N k n)
     locked_parts_sync = search (sendable, fields_sync) depth 20
