@@ -12,6 +12,7 @@ use crate::dossiers::Dossiers;
 use crate::laying::rows_after;
 use crate::tests_of::{is_old_list, is_refused, is_stale_hit};
 use hib_base::{Entry, Key, Rows, Script};
+use hib_journal::committer;
 use hib_order_law::Verdicts;
 use hib_report::unsound_keys;
 use std::alloc::{AllocError, Global};
