@@ -1,5 +1,6 @@
 // Whether an entry's tick is after the last ones.
 ghost use Rattle.std.specs.Prelude.{◌≡◌};
+ghost use Rattle.hib_audit.specs.Standing.{is_after};
 
 use hib_base::Entry;
 use hib_clock::Ticks;
@@ -9,7 +10,7 @@ const LAST: u64 = 1 << 62;
 
 /// Whether an entry's tick is from 1 to 2^62, not before the last one, and after those of its part and of its session.
 pub fn is_after(ticks: &Ticks, entry: &Entry) -> bool
-    ensures { result ≡ Rattle.hib_audit.specs.Standing.is_after ticks.now entry.now }
+    ensures { result ≡ is_after ticks.now entry.now }
 {
     let now = entry.tick.0;
     1 <= now
