@@ -1,5 +1,5 @@
 -- An entry is judged, and taken.
-use Rattle.std.specs.Prelude.{◌≤◌, ◌^◌, slice_get, unwrap_or, option_map}
+use Rattle.std.specs.Prelude.{slice_get, unwrap_or, option_map}
 use Rattle.std.proofs.Common.{◌≡◌, ℕ, ◌<◌, ◌==◌, Bool, true, false, cond, List, ◌∷◌, length, IsSome, Some, None, Option, refl, sym, ap, ◌∙◌, subst, arith, inl, inr}
 use Rattle.std.proofs.lemmas.Bool.{true≢false}
 use Rattle.hib_base.specs.Tables.{Tables}
@@ -13,22 +13,20 @@ use Rattle.hib_journal.specs.Runs.{is_fault}
 use Rattle.hib_outside.specs.Causes.{Rose}
 use Rattle.hib_session.specs.declared.session.Session.{Session}
 use Rattle.hib_session.specs.Session.{Follows, IsTaken, number_of, own_reply}
-use Rattle.hib_engines.specs.Region.{is_regional, acts_on}
 use Rattle.hib_engines.specs.Served.{AreWithin}
 use Rattle.hib_session.specs.Sessions.{AreSessions}
 use Rattle.hib_engines.specs.Engines.{EnginesState, AreStanding, IsReady, IsAnswered}
+use Rattle.hib_clock.specs.LastTicks.{TicksState, AreLast}
 use Rattle.hib_audit.specs.Breaks.{start_rows}
-use Rattle.hib_audit.specs.Standing.{AreWritten, HasWritten, WrittenState, noted, IsJudged, IsComing, IsDueOf, IsNext, IsPartOf, IsSessionOf, AuditorState, Knows}
+use Rattle.hib_audit.specs.Standing.{AreWritten, HasWritten, WrittenState, IsJudged, IsComing, IsDueOf, IsNext, AuditorState, Knows}
 use Rattle.hib_engines.proofs.Allowed.{is_due}
 use Rattle.hib_session.proofs.OwnReplies.{own_is}
 use Rattle.hib_session.proofs.Killed.{none_killed}
 use Rattle.hib_audit.proofs.Replies.{own_unfailing, fault_is}
-use Rattle.hib_engines.proofs.RegionList.{entity_within}
 use Rattle.hib_audit.proofs.Members.{due_within, due_lives}
 use Rattle.hib_audit.proofs.Kept.{written_outside}
 use Rattle.hib_session.specs.Killed.{AreKilled}
 use Rattle.hib_session.proofs.Together.{sessions_outside}
-use Rattle.hib_audit.proofs.Ticking.{ticks_noted, roomy_noted}
 
 -- ---- the reply
 
@@ -132,38 +130,11 @@ taken_of script start h s e y c p v = record {
   own = λ q o. own_or script start h s e.tick e.act e.reply q v.reply o;
 }
 
--- ---- the part and the session of an entry are the script's
-
-part_within : (script : Script) (a : Act) (s : ℕ) → s < length script.sessions → (is_regional a ≡ true → acts_on a < length script.mapping) → IsPartOf script (part_of a s)
-part_within script Act.Begin s l f = tt
-part_within script Act.End s l f = tt
-part_within script (Act.Kill n) s l f = tt
-part_within script Act.Restart s l f = tt
-part_within script (Act.Find k) s l f = l
-part_within script (Act.Persist k r) s l f = l
-part_within script (Act.Set k cells) s l f = l
-part_within script (Act.Remove k) s l f = l
-part_within script Act.Clear s l f = l
-part_within script (Act.Load k) s l f = tt
-part_within script (Act.List q) s l f = tt
-part_within script (Act.Write c) s l f = tt
-part_within script Act.Commit s l f = tt
-part_within script Act.Rollback s l f = tt
-part_within script (Act.Pre ts) s l f = tt
-part_within script (Act.Stamp ts) s l f = tt
-part_within script (Act.Check q t) s l f = tt
-part_within script (Act.Look q) s l f = tt
-part_within script (Act.Keep q t r) s l f = tt
-part_within script (Act.Get k t) s l f = f refl
-part_within script (Act.Put k r t v) s l f = f refl
-part_within script (Act.Lock k v r) s l f = f refl
-part_within script (Act.Unlock k i) s l f = f refl
-part_within script (Act.AfterInsert k r v) s l f = f refl
-part_within script (Act.AfterUpdate k i r) s l f = f refl
-part_within script (Act.RegionRemove k) s l f = f refl
-part_within script (Act.Evict k) s l f = f refl
-
 -- ---- all that is kept, with an entry more
+
+-- the last ticks, with an entry more
+abbrev pub IsNoted : Entry → TicksState → TicksState → Type 0
+IsNoted e x y = (g : Journal) → AreLast x g → AreLast y (e ∷ g)
 
 -- the five points hold
 step_of : (script : Script) (start : Tables) (h : Journal) (e : Entry) → IsComing script h e → IsReply script (Some start) h e → IsStep script (Some start) h e
@@ -176,15 +147,13 @@ step_of script start h e c r = record {
 }
 
 knows_more : (script : Script) (start : Tables) (h : Journal) (by : Option ℕ) (e : Entry) (x y : AuditorState) → Knows script start h x → IsComing script h e → e.session ≡ by →
-    IsAnswered script (Some start) h by e.tick e.act e.reply y.engines → AreSessions script (e ∷ h) y.sessions → AreWritten script (e ∷ h) y.written → y.ticks ≡ noted e x.ticks → IsPartOf script e.part → IsSessionOf script by →
-    Knows script start (e ∷ h) y
-knows_more script start h by e x y k c p v ss ws q part session = record {
+    IsAnswered script (Some start) h by e.tick e.act e.reply y.engines → AreSessions script (e ∷ h) y.sessions → AreWritten script (e ∷ h) y.written → IsNoted e x.ticks y.ticks → Knows script start (e ∷ h) y
+knows_more script start h by e x y k c p v ss ws q = record {
   legal = (k.legal, step_of script start h e c (subst (λ (d : Entry). IsReply script (Some start) h d) same v.reply));
   engines = subst (λ (d : Entry). AreStanding script (Some start) (d ∷ h) y.engines) same v.standing;
   sessions = ss;
   written = ws;
-  ticks = subst (λ t. Rattle.hib_audit.specs.Standing.AreTicks (e ∷ h) t) (sym q) (ticks_noted script h e x.ticks k.ticks k.roomy part (subst (λ b. IsSessionOf script b) (sym p) session));
-  roomy = subst (λ t. Rattle.hib_audit.specs.Standing.AreRoomy script t) (sym q) (roomy_noted script e x.ticks k.roomy);
+  ticks = q h k.ticks;
   built = k.built;
 }
   where
@@ -192,15 +161,8 @@ knows_more script start h by e x y k c p v ss ws q part session = record {
     same = entry_is e by p c.part
 
 pub knows_session : (script : Script) (start : Tables) (h : Journal) (s : ℕ) (e : Entry) (x y : AuditorState) → Knows script start h x → IsComing script h e → e.session ≡ Some s →
-    IsAnswered script (Some start) h (Some s) e.tick e.act e.reply y.engines → AreSessions script (e ∷ h) y.sessions → AreWritten script (e ∷ h) y.written → y.ticks ≡ noted e x.ticks → Knows script start (e ∷ h) y
+    IsAnswered script (Some start) h (Some s) e.tick e.act e.reply y.engines → AreSessions script (e ∷ h) y.sessions → AreWritten script (e ∷ h) y.written → IsNoted e x.ticks y.ticks → Knows script start (e ∷ h) y
 knows_session script start h s e x y k c p v ss ws q = knows_more script start h (Some s) e x y k c p v ss ws q
-    (subst (λ (z : Part). IsPartOf script z) (subst (λ by. part_of e.act (unwrap_or by 0) ≡ e.part) p c.part) (part_within script e.act s within (λ r. entity_within script e.act r ready.due.suits))) within
-  where
-    within : s < length script.sessions
-    within = session_within script h s e c p
-
-    ready : IsReady script (Some start) h s e.tick e.act x.engines
-    ready = ready_of script start h s e x k c p
 
 -- of an entry whose reply may not be
 pub not_taken : (script : Script) (start : Tables) (h : Journal) (by : Option ℕ) (e : Entry) (y : EnginesState) → IsComing script h e → e.session ≡ by →
@@ -210,31 +172,29 @@ not_taken script start h by e y c p f z r = f z (subst (λ (d : Entry). IsReply 
 -- ---- from outside
 
 knows_outside : (script : Script) (start : Tables) (h : Journal) (e : Entry) (x y : AuditorState) → Knows script start h x → IsComing script h e → e.session ≡ None →
-    IsAnswered script (Some start) h None e.tick e.act e.reply y.engines → AreKilled (λ s. killed_by s e.act (is_open s h)) x.sessions y.sessions → y.written ≡ x.written → y.ticks ≡ noted e x.ticks → IsPartOf script (part_of e.act 0) →
-    Knows script start (e ∷ h) y
-knows_outside script start h e x y k c p v ss ws q part = knows_more script start h None e x y k c p v
+    IsAnswered script (Some start) h None e.tick e.act e.reply y.engines → AreKilled (λ s. killed_by s e.act (is_open s h)) x.sessions y.sessions → y.written ≡ x.written → IsNoted e x.ticks y.ticks → Knows script start (e ∷ h) y
+knows_outside script start h e x y k c p v ss ws q = knows_more script start h None e x y k c p v
     (subst (λ (d : Entry). AreSessions script (d ∷ h) y.sessions) (entry_is e None p c.part) (sessions_outside script h e.tick e.act e.reply x.sessions y.sessions k.sessions ss))
     (subst (λ xs. AreWritten script (e ∷ h) xs) (sym ws) (written_outside script h e x.written p k.written)) q
-    (subst (λ (z : Part). IsPartOf script z) (subst (λ by. part_of e.act (unwrap_or by 0) ≡ e.part) p c.part) part) tt
 
 pub knows_kill : (script : Script) (start : Tables) (h : Journal) (n : ℕ) (e : Entry) (x y : AuditorState) → Knows script start h x → IsComing script h e → e.session ≡ None → e.act ≡ Act.Kill n → e.reply ≡ Reply.Done →
     (AreStanding script (Some start) h x.engines → IsLate Part.Registry e.tick h → IsAnswered script (Some start) h None e.tick (Act.Kill n) Reply.Done y.engines) →
-    AreKilled (λ s. n == s) x.sessions y.sessions → y.written ≡ x.written → y.ticks ≡ noted e x.ticks → Knows script start (e ∷ h) y
+    AreKilled (λ s. n == s) x.sessions y.sessions → y.written ≡ x.written → IsNoted e x.ticks y.ticks → Knows script start (e ∷ h) y
 knows_kill script start h n e x y k c p a r f ss ws q = knows_outside script start h e x y k c p
     (subst (λ (z : Reply). IsAnswered script (Some start) h None e.tick e.act z y.engines) (sym r)
     (subst (λ (o : Act). IsAnswered script (Some start) h None e.tick o Reply.Done y.engines) (sym a) (f k.engines late)))
-    (subst (λ (o : Act). AreKilled (λ s. killed_by s o (is_open s h)) x.sessions y.sessions) (sym a) ss) ws q (subst (λ (o : Act). IsPartOf script (part_of o 0)) (sym a) tt)
+    (subst (λ (o : Act). AreKilled (λ s. killed_by s o (is_open s h)) x.sessions y.sessions) (sym a) ss) ws q
   where
     late : IsLate Part.Registry e.tick h
     late = subst (λ (o : Act). IsLate (part_of o (unwrap_or e.session 0)) e.tick h) a (late_of script h e c)
 
 pub knows_restart : (script : Script) (start : Tables) (h : Journal) (e : Entry) (x y : AuditorState) → Knows script start h x → IsComing script h e → e.session ≡ None → e.act ≡ Act.Restart → e.reply ≡ Reply.Done →
     (AreStanding script (Some start) h x.engines → IsLate Part.Registry e.tick h → IsAnswered script (Some start) h None e.tick Act.Restart Reply.Done y.engines) →
-    AreKilled (λ s. is_open s h) x.sessions y.sessions → y.written ≡ x.written → y.ticks ≡ noted e x.ticks → Knows script start (e ∷ h) y
+    AreKilled (λ s. is_open s h) x.sessions y.sessions → y.written ≡ x.written → IsNoted e x.ticks y.ticks → Knows script start (e ∷ h) y
 knows_restart script start h e x y k c p a r f ss ws q = knows_outside script start h e x y k c p
     (subst (λ (z : Reply). IsAnswered script (Some start) h None e.tick e.act z y.engines) (sym r)
     (subst (λ (o : Act). IsAnswered script (Some start) h None e.tick o Reply.Done y.engines) (sym a) (f k.engines late)))
-    (subst (λ (o : Act). AreKilled (λ s. killed_by s o (is_open s h)) x.sessions y.sessions) (sym a) ss) ws q (subst (λ (o : Act). IsPartOf script (part_of o 0)) (sym a) tt)
+    (subst (λ (o : Act). AreKilled (λ s. killed_by s o (is_open s h)) x.sessions y.sessions) (sym a) ss) ws q
   where
     late : IsLate Part.Registry e.tick h
     late = subst (λ (o : Act). IsLate (part_of o (unwrap_or e.session 0)) e.tick h) a (late_of script h e c)
@@ -253,10 +213,9 @@ pub evict_late : (script : Script) (h : Journal) (k : Key) (e : Entry) → IsCom
 evict_late script h k e c a = subst (λ (o : Act). IsLate (part_of o (unwrap_or e.session 0)) e.tick h) a (late_of script h e c)
 
 pub knows_evict : (script : Script) (start : Tables) (h : Journal) (k : Key) (e : Entry) (x y : AuditorState) → Knows script start h x → IsComing script h e → e.session ≡ None → e.act ≡ Act.Evict k →
-    IsAnswered script (Some start) h None e.tick e.act e.reply y.engines → y.sessions ≡ x.sessions → y.written ≡ x.written → y.ticks ≡ noted e x.ticks → Knows script start (e ∷ h) y
+    IsAnswered script (Some start) h None e.tick e.act e.reply y.engines → y.sessions ≡ x.sessions → y.written ≡ x.written → IsNoted e x.ticks y.ticks → Knows script start (e ∷ h) y
 knows_evict script start h k e x y w c p a v ss ws q = knows_outside script start h e x y w c p v
     (subst (λ xs. AreKilled (λ s. killed_by s e.act (is_open s h)) x.sessions xs) (sym ss) (subst (λ (o : Act). AreKilled (λ s. killed_by s o (is_open s h)) x.sessions x.sessions) (sym a) (none_killed x.sessions))) ws q
-    (subst (λ (o : Act). IsPartOf script (part_of o 0)) (sym a) (entity_within script (Act.Evict k) refl (evict_cached script h k e.act a c.comes)))
 
 pub evict_sure : (cs : List Rattle.hib_journal.specs.Types.Change) (k : Key) (a : Act) (q : Reply) → a ≡ Act.Evict k → fault_of cs a ≡ Some q → ⊥
 evict_sure cs k a q e f = none (subst (λ (o : Act). fault_of cs o ≡ Some q) e f)

@@ -1,10 +1,10 @@
 -- What the audit keeps while it goes over a journal: its engines and sessions stand for the entries so far.
-use Rattle.std.specs.Prelude.{◌≡◌, ℕ, ◌<◌, ◌&&◌, nat_le, nat_lt, slice_set, Bool, false, true, not, List, ◌∷◌, length, slice_get, slice_index, replicate, Some, None, Option, unwrap_or}
+use Rattle.std.specs.Prelude.{◌≡◌, ℕ, ◌&&◌, nat_le, nat_lt, Bool, false, true, not, List, ◌∷◌, length, slice_get, Some, None, Option, unwrap_or}
 use Rattle.std.specs.List.{list_any}
 use Rattle.hib_base.specs.Keys.{same_key}
 use Rattle.hib_base.specs.Tables.{Tables}
-use Rattle.hib_journal.specs.Types.{Key, Change, Script, Part, Act, Reply, Entry}
-use Rattle.hib_journal.specs.Sessions.{Journal, own, changes, same_part, same_session, last_tick, IsTimely, is_empty}
+use Rattle.hib_journal.specs.Types.{Key, Change, Script, Act, Reply, Entry}
+use Rattle.hib_journal.specs.Sessions.{Journal, own, changes, IsTimely, is_empty}
 use Rattle.hib_journal.specs.Next.{is_in}
 use Rattle.hib_journal.specs.Legal.{IsLegal, IsReply, is_outside, due, may_come, part_of}
 use Rattle.hib_journal.specs.Lists.{entry_at}
@@ -14,67 +14,9 @@ use Rattle.hib_session.specs.Session.{Follows, number_of}
 use Rattle.hib_session.specs.Sessions.{AreSessions}
 use Rattle.hib_engines.specs.Built.{IsBuilt}
 use Rattle.hib_engines.specs.Engines.{EnginesState, AreStanding, IsAnswered, IsReady}
+use Rattle.hib_clock.specs.LastTicks.{TicksState, AreLast, part_last, session_last}
 use Rattle.hib_audit.specs.declared.points.AuditKind.{AuditKind}
 use Rattle.hib_audit.specs.Breaks.{Breaks, start_rows}
-
--- ---- the ticks
-
--- the last tick of all entries, of each part and of each session, or 0
-pub record TicksState : Type 0 where
-  pub last : ℕ
-  pub registry : ℕ
-  pub store : ℕ
-  pub stamps : ℕ
-  pub results : ℕ
-  pub regions : List ℕ
-  pub own : List ℕ
-  pub sessions : List ℕ
-
-abbrev pub part_tick : TicksState → Part → ℕ
-part_tick x Part.Registry = x.registry
-part_tick x Part.Store = x.store
-part_tick x Part.Stamps = x.stamps
-part_tick x Part.Results = x.results
-part_tick x (Part.Region n) = slice_index x.regions n
-part_tick x (Part.Own n) = slice_index x.own n
-
-abbrev pub session_tick : TicksState → Option ℕ → ℕ
-session_tick x None = 0
-session_tick x (Some n) = slice_index x.sessions n
-
-pub record AreTicks (h : Journal) (x : TicksState) : Type 0 where
-  pub last : x.last ≡ last_tick (λ _. true) h
-  pub parts : (p : Part) → part_tick x p ≡ last_tick (λ d. same_part p d.part) h
-  pub sessions : (by : Option ℕ) → session_tick x by ≡ last_tick (λ d. same_session by d.session) h
-
--- no entry came yet
-abbrev pub no_ticks : ℕ → ℕ → TicksState
-no_ticks entities sessions = record {
-  last = 0;
-  registry = 0;
-  store = 0;
-  stamps = 0;
-  results = 0;
-  regions = replicate entities 0;
-  own = replicate sessions 0;
-  sessions = replicate sessions 0;
-}
-
--- the places of a script's entities and sessions
-pub record AreRoomy (script : Script) (x : TicksState) : Type 0 where
-  pub regions : length x.regions ≡ length script.mapping
-  pub own : length x.own ≡ length script.sessions
-  pub sessions : length x.sessions ≡ length script.sessions
-
--- a part and a session that a script has
-abbrev pub IsPartOf : Script → Part → Type 0
-IsPartOf script (Part.Region n) = n < length script.mapping
-IsPartOf script (Part.Own n) = n < length script.sessions
-IsPartOf script _ = Unit {0}
-
-abbrev pub IsSessionOf : Script → Option ℕ → Type 0
-IsSessionOf script None = Unit {0}
-IsSessionOf script (Some n) = n < length script.sessions
 
 -- ---- what a session has written
 
@@ -101,23 +43,7 @@ pub record AreWritten (script : Script) (h : Journal) (xs : List WrittenState) :
 abbrev pub is_after : TicksState → Entry → Bool
 is_after x e =
     nat_le 1 e.tick && (nat_le e.tick 4611686018427387904
-    && (nat_le x.last e.tick && (nat_lt (part_tick x e.part) e.tick && nat_lt (session_tick x e.session) e.tick)))
-
-abbrev pub with_part : Part → ℕ → TicksState → TicksState
-with_part Part.Registry t x = record x { registry = t }
-with_part Part.Store t x = record x { store = t }
-with_part Part.Stamps t x = record x { stamps = t }
-with_part Part.Results t x = record x { results = t }
-with_part (Part.Region n) t x = record x { regions = slice_set x.regions n t }
-with_part (Part.Own n) t x = record x { own = slice_set x.own n t }
-
-abbrev pub with_session : Option ℕ → ℕ → TicksState → TicksState
-with_session None t x = x
-with_session (Some n) t x = record x { sessions = slice_set x.sessions n t }
-
--- the last ticks with one more entry
-abbrev pub noted : Entry → TicksState → TicksState
-noted e x = with_session e.session e.tick (with_part e.part e.tick (record x { last = e.tick }))
+    && (nat_le x.last e.tick && (nat_lt (part_last x e.part) e.tick && nat_lt (session_last x e.session) e.tick)))
 
 -- ---- an entry
 
@@ -171,8 +97,7 @@ pub record Knows (script : Script) (start : Tables) (h : Journal) (x : AuditorSt
   pub engines : AreStanding script (Some start) h x.engines
   pub sessions : AreSessions script h x.sessions
   pub written : AreWritten script h x.written
-  pub ticks : AreTicks h x.ticks
-  pub roomy : AreRoomy script x.ticks
+  pub ticks : AreLast x.ticks h
   pub built : IsBuilt script
 
 -- an entry that comes has a reply that may be, and it was taken; or it hasn't, unless the keeper failed

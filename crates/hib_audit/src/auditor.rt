@@ -13,9 +13,10 @@ use crate::keeper::Unfailing;
 use crate::points::{AuditKind, difference, due_act};
 use crate::same::is_same_reply;
 use crate::sessions::{advance, note_written, open_written};
-use crate::ticks::Ticks;
+use crate::ticks::is_after;
 use crate::written::Written;
 use hib_base::{Act, Entry, Key, Reply, Script, SessionNo};
+use hib_clock::Ticks;
 use hib_engines::Engines;
 use hib_session::{Session, kill_all, kill_at, open_all};
 use std::alloc::{AllocError, Global};
@@ -75,7 +76,7 @@ impl Auditor {
     {
         let sessions = open_all(alloc, script)?;
         let written = open_written(alloc, script)?;
-        let ticks = Ticks::open(alloc, script)?;
+        let ticks = Ticks::new(alloc);
         let Ok(engines) = Engines::open(alloc, script, Unfailing::new(alloc)) else {
             // The keeper never fails, so that memory ran out.
             return Err(AllocError);
@@ -121,39 +122,39 @@ impl Auditor {
         }
         advance(alloc, script, &mut self.sessions, number, entry)?;
         note_written(alloc, &mut self.written, number, entry)?;
-        self.ticks.note(entry);
+        self.ticks.note(entry)?;
         Ok(true)
     }
 
     /// Takes the entry of a kill, if its reply may be. The kill must be one that may come. Answers whether it was
     /// taken.
-    fn take_kill(&mut self, session: SessionNo, entry: &Entry) -> bool
+    fn take_kill(&mut self, session: SessionNo, entry: &Entry) -> Result<bool, AllocError>
         requires by { entry.now.session ≡ None }
         requires act { entry.now.act ≡ Act.Kill session }
-        ensures { (script : Said) → Takes result script entry.now self.old self.new }
+        ensures { IfOk result (λ b. (script : Said) → Takes b script entry.now self.old self.new) }
     {
         if !is_done(&entry.reply) {
-            return false;
+            return Ok(false);
         }
         self.engines.kill(session);
         kill_at(&mut self.sessions, session.0 as usize);
-        self.ticks.note(entry);
-        true
+        self.ticks.note(entry)?;
+        Ok(true)
     }
 
     /// Takes the entry of a restart, if its reply may be. Answers whether it was taken.
-    fn take_restart(&mut self, entry: &Entry) -> bool
+    fn take_restart(&mut self, entry: &Entry) -> Result<bool, AllocError>
         requires by { entry.now.session ≡ None }
         requires act { entry.now.act ≡ Act.Restart }
-        ensures { (script : Said) → Takes result script entry.now self.old self.new }
+        ensures { IfOk result (λ b. (script : Said) → Takes b script entry.now self.old self.new) }
     {
         if !is_done(&entry.reply) {
-            return false;
+            return Ok(false);
         }
         kill_all(&mut self.sessions, self.engines.registry().open_sessions());
         self.engines.restart();
-        self.ticks.note(entry);
-        true
+        self.ticks.note(entry)?;
+        Ok(true)
     }
 
     /// Takes the entry of an eviction, if its reply may be. The eviction must be one that may come. Answers whether it
@@ -168,7 +169,7 @@ impl Auditor {
         if !is_same_reply(&reply, &entry.reply) {
             return Ok(false);
         }
-        self.ticks.note(entry);
+        self.ticks.note(entry)?;
         Ok(true)
     }
 
@@ -181,8 +182,8 @@ impl Auditor {
             return self.take_session(alloc, script, number, entry);
         }
         match &entry.act {
-            Act::Kill { session } => Ok(self.take_kill(*session, entry)),
-            Act::Restart => Ok(self.take_restart(entry)),
+            Act::Kill { session } => self.take_kill(*session, entry),
+            Act::Restart => self.take_restart(entry),
             Act::Evict { key } => self.take_evict(alloc, *key, entry),
             // No other act comes from outside.
             _ => unreachable!(),
@@ -199,7 +200,7 @@ impl Auditor {
         requires { IsKept script.now self.old }
         ensures { IfOk result (λ o. Passes o script.now entry.now self.old self.new) }
     {
-        if !self.ticks.is_after(entry) {
+        if !is_after(&self.ticks, entry) {
             return Ok(Some(AuditKind::Tick));
         }
         let Some(due) = due_act(alloc, script, self.sessions.as_slice(), entry)? else {

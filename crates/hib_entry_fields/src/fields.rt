@@ -1,8 +1,9 @@
 // Pieces of bytes between spaces, and the numbers and versions that they look like. Bytes that are none look like some
 // all the same; an entry that was guessed so is written again, and refused if its text is another one.
 ghost use Rattle.hib_entry_fields.specs.Fields as format;
-ghost use Rattle.hib_lex.specs.Tokens.{size_of};
-ghost use Rattle.std.specs.Prelude.{◌≡◌, ◌^◌, ◌<◌, SomeIff, drop, bytes_eq, codes};
+ghost use Rattle.std.specs.Prelude.{◌≡◌, ◌^◌, drop, bytes_eq, codes};
+
+use hib_lex::size_of_digits;
 
 /// The bytes without the first.
 pub fn after_one(bytes: &[u8]) -> &[u8]
@@ -51,26 +52,12 @@ pub fn next(bytes: &[u8]) -> (&[u8], &[u8])
     piece(after_one(bytes))
 }
 
-/// What digits add up to; none from 2^64 on.
-#[tactic(auto, using(hib_lex::proofs::Scans::digit_next, hib_lex::proofs::Scans::size_grows, hib_lex::proofs::Scans::size_done))]
-fn size(digits: &[u8]) -> Option<u64>
-    ensures { SomeIff result (size_of digits.now < 2 ^ 64) (size_of digits.now) }
-{
-    let mut size: u64 = 0;
-    for digit in digits {
-        size = size
-            .checked_mul(10)?
-            .checked_add(u64::from(digit.saturating_sub(b'0')))?;
-    }
-    Some(size)
-}
-
 /// The number that a piece looks like; 0 if it is too large.
 #[tactic(auto, unfolding(crate::specs::Fields::number_of))]
 pub fn number_of(piece: &[u8]) -> u64
     ensures { result ≡ format.number_of piece.now }
 {
-    match size(piece) {
+    match size_of_digits(piece) {
         Some(n) => n,
         None => 0,
     }

@@ -2,12 +2,8 @@
 use Rattle.std.proofs.Common.{◌≡◌, ℕ, List, [], ◌++◌, ap, ◌∙◌, codes}
 use Rattle.hib_journal.specs.Types.{Entry, Script}
 use Rattle.hib_flat.specs.declared.form.Form.{Form}
-use Rattle.hib_flat.specs.Forms.{line_as, lines_as}
+use Rattle.hib_flat.specs.Forms.{lines_as}
 use Rattle.hib_flat.specs.Lines.{header, flat_csv}
-
--- the line of an entry, with its end
-abbrev pub ended : Form → Script → Entry → List ℕ
-ended form script e = line_as form script e ++ codes "\n"
 
 -- the line of names was gathered first
 pub csv_begun : (script : Script) (es : List Entry) (none g : List ℕ) → none ≡ [] → g ≡ none ++ (header script ++ codes "\n") → g ++ lines_as Form.Csv script es ≡ flat_csv script es

@@ -1,11 +1,10 @@
 // Flat data on its way to a sink, piece by piece.
-ghost use Rattle.std.specs.Prelude.{◌≡◌, ◌++◌, OnOk, OnErr};
+ghost use Rattle.std.specs.Prelude.{◌≡◌, ◌++◌, codes, OnOk, OnErr};
 ghost use Rattle.std.specs.Io.KnownBytes.{Appends};
 ghost use Rattle.hib_outside.specs.Causes.{Rose};
 ghost use Rattle.hib_outside.specs.Fronts.{TakesFront};
-ghost use Rattle.hib_report.specs.Sending.{IsSent};
 ghost use Rattle.hib_report.specs.declared.sending.WriteStop.{WriteStop};
-ghost use Rattle.hib_flat.specs.Forms.{lines_as, needed};
+ghost use Rattle.hib_flat.specs.Forms.{line_as, needed};
 ghost use Rattle.hib_flat.specs.Lines.{flat, flat_csv};
 
 use crate::columns::column_names;
@@ -13,32 +12,24 @@ use crate::form::Form;
 use crate::lines::{put_header, put_line};
 use hib_base::{Entry, Script, Text};
 use hib_outside::Sink;
-use hib_report::{WriteStop, send as send_gathered, send_piece};
-use std::alloc::Global;
+use hib_report::{PutLine, WriteStop, send as send_gathered, send_lines};
+use std::alloc::{AllocError, Global};
 
-/// Gathers the lines of the entries, and sends them whenever there is a piece.
-fn send_lines<W: Sink>(
-    alloc: Global,
-    out: &mut W,
-    gathered: &mut Vec<u8>,
+/// The lines of entries in a form.
+#[derive(Drop)]
+struct FlatLines<'a> {
     form: Form,
-    script: &Script,
-    names: &[Text],
-    entries: &[Entry],
-) -> Result<(), WriteStop>
-    requires { names.now ≡ needed form script.now }
-    ensures sent { OnOk result (IsSent (W.taken out.old) (W.taken out.new)
-        (gathered.old.items ++ lines_as form script.now entries.now) gathered.new.items) }
-    ensures front { OnErr result (TakesFront (W.taken out.old) (W.taken out.new)
-        (gathered.old.items ++ lines_as form script.now entries.now)) }
-    ensures calm { OnOk result (W.faults out.new ≡ W.faults out.old) }
-    ensures cause { result ≡ Err WriteStop.Failed → Rose (W.faults out.old) (W.faults out.new) }
-{
-    for entry in entries {
-        put_line(alloc, gathered, form, script, names, entry)?;
-        send_piece(out, gathered)?;
+    script: &'a Script,
+    names: &'a [Text],
+    ghost named: { names.now ≡ needed form script.now },
+}
+
+impl<'a> PutLine for FlatLines<'a> {
+    ghost line = { λ l e. line_as l.form l.script.now e ++ codes "\n" };
+
+    fn put(&self, alloc: Global, out: &mut Vec<u8>, entry: &Entry) -> Result<(), AllocError> {
+        put_line(alloc, out, self.form, self.script, self.names, entry)
     }
-    Ok(())
 }
 
 /// Writes an object for each entry to a sink, each on a line, piece by piece: no more of them is in memory at a time
@@ -58,7 +49,12 @@ pub fn write<W: Sink>(
     ensures cause { result ≡ Err WriteStop.Failed → Rose (W.faults out.old) (W.faults out.new) }
 {
     let mut gathered = Vec::new(alloc);
-    send_lines(alloc, out, &mut gathered, Form::Json, script, &[], entries)?;
+    let lines = FlatLines {
+        form: Form::Json,
+        script,
+        names: &[],
+    };
+    send_lines(alloc, out, &mut gathered, &lines, entries)?;
     send_gathered(out, &mut gathered)?;
     Ok(())
 }
@@ -80,15 +76,12 @@ pub fn write_csv<W: Sink>(
     let names = column_names(alloc, script)?;
     let mut gathered = Vec::new(alloc);
     put_header(&mut gathered, script, names.as_slice())?;
-    send_lines(
-        alloc,
-        out,
-        &mut gathered,
-        Form::Csv,
+    let lines = FlatLines {
+        form: Form::Csv,
         script,
-        names.as_slice(),
-        entries,
-    )?;
+        names: names.as_slice(),
+    };
+    send_lines(alloc, out, &mut gathered, &lines, entries)?;
     send_gathered(out, &mut gathered)?;
     Ok(())
 }

@@ -70,6 +70,10 @@ abbrev pub is_positive : List ℕ → Bool
 is_positive [] = false
 is_positive (d ∷ ds) = not (d == zero_digit) && list_all is_digit (d ∷ ds)
 
+-- `0`, or digits that don't begin with 0
+abbrev pub is_natural : List ℕ → Bool
+is_natural ds = is_zero ds || is_positive ds
+
 -- what digits come to after the digits of n
 abbrev pub size_after : ℕ → List ℕ → ℕ
 size_after n [] = n
@@ -80,7 +84,7 @@ size_of ds = size_after 0 ds
 
 abbrev pub natural_of : List ℕ → Option ℤ
 natural_of ds =
-    if (is_zero ds || is_positive ds) && nat_lt (size_of ds) (2 ^ 63) then Some (pos (size_of ds)) else None
+    if is_natural ds && nat_lt (size_of ds) (2 ^ 63) then Some (pos (size_of ds)) else None
 
 abbrev pub negative_of : List ℕ → Option ℤ
 negative_of ds = if is_positive ds && nat_le (size_of ds) (2 ^ 63) then Some (neg_ℤ (pos (size_of ds))) else None

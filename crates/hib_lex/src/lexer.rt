@@ -1,10 +1,11 @@
 // The tokens of a line, and which lines are skipped. A mark is here a quotation mark.
 ghost use Rattle.std.specs.List.{list_all};
-ghost use Rattle.std.specs.Prelude.{◌≡◌, ◌==◌, ◌^◌, ◌<◌, ◌≤◌, true, pos, neg_ℤ, length, IfOk, SomeIff, position};
+ghost use Rattle.std.specs.Prelude.{◌≡◌, ◌==◌, ◌^◌, ◌<◌, ◌≤◌, true, pos, neg_ℤ, length, IfOk, position};
 ghost use Rattle.hib_base.specs.Fits.{is_printable};
 ghost use Rattle.hib_lex.specs.Tokens as lines;
 ghost use Rattle.hib_lex.specs.Parts as parts;
 
+use crate::digits::{is_natural, is_positive, size_of_digits};
 use hib_base::{Seq, Text};
 use std::alloc::{AllocError, Global};
 
@@ -298,10 +299,10 @@ fn number(bytes: &[u8]) -> Option<i64>
 fn natural(digits: &[u8]) -> Option<i64>
     ensures { result ≡ lines.natural_of digits.now }
 {
-    if !is_zero(digits) && !is_positive(digits) {
+    if !is_natural(digits) {
         return None;
     }
-    let size = size(digits)?;
+    let size = size_of_digits(digits)?;
     if size < 1 << 63 {
         Some(size as i64)
     } else {
@@ -317,7 +318,7 @@ fn negative(digits: &[u8]) -> Option<i64>
     if !is_positive(digits) {
         return None;
     }
-    let size = size(digits)?;
+    let size = size_of_digits(digits)?;
     if size <= 1 << 63 {
         Some(negated(size))
     } else {
@@ -332,40 +333,4 @@ fn negated(size: u64) -> i64
     ensures { result ≡ neg_ℤ (pos size) }
 {
     -((size - 1) as i64) - 1
-}
-
-fn is_zero(digits: &[u8]) -> bool
-    ensures { result ≡ lines.is_zero digits.now }
-{
-    matches!(digits, [b'0'])
-}
-
-/// Whether these bytes are digits that don't begin with 0.
-fn is_positive(digits: &[u8]) -> bool
-    ensures { result ≡ lines.is_positive digits.now }
-{
-    match digits {
-        [] => false,
-        [first, ..] => *first != b'0' && are_digits(digits),
-    }
-}
-
-fn are_digits(bytes: &[u8]) -> bool
-    ensures { result ≡ list_all lines.is_digit bytes.now }
-{
-    bytes.iter().all(|byte| byte.is_ascii_digit())
-}
-
-/// What digits add up to, each with the weight of its place; none from 2^64 on.
-#[tactic(auto, using(crate::proofs::Scans::digit_next, crate::proofs::Scans::size_grows, crate::proofs::Scans::size_done))]
-fn size(digits: &[u8]) -> Option<u64>
-    ensures { SomeIff result (lines.size_of digits.now < 2 ^ 64) (lines.size_of digits.now) }
-{
-    let mut size: u64 = 0;
-    for digit in digits {
-        size = size
-            .checked_mul(10)?
-            .checked_add(u64::from(digit.saturating_sub(b'0')))?;
-    }
-    Some(size)
 }

@@ -4,6 +4,7 @@ use Rattle.std.specs.Fmt.{decimal}
 use Rattle.hib_base.specs.declared.numbers.Key.{Key}
 use Rattle.hib_base.specs.declared.rows.Cell.{Cell}
 use Rattle.hib_base.specs.declared.rows.Row.{Row}
+use Rattle.hib_make.specs.declared.rows.Form.{Form}
 use Rattle.hib_make.specs.Draws.{Drawn, draw, at_once, then, many}
 use Rattle.hib_make.specs.Entities.{author, book, customer, shelf}
 
@@ -41,6 +42,13 @@ customer_row k x =
 
 abbrev pub shelf_row : ℕ → ℕ → Rows
 shelf_row k x = draw 2 x (λ full y. at_once (row shelf k None (Cell.Text (numbered (codes "shelf ") k) ∷ truth full ∷ []) ∷ []) y)
+
+-- a row of a form, by its number
+abbrev pub form_row : Form → ℕ → ℕ → Rows
+form_row Form.Author = author_row
+form_row Form.Book = book_row
+form_row Form.Customer = customer_row
+form_row Form.Shelf = shelf_row
 
 unfoldable pub made_rows : ℕ → Rows
 made_rows x = then (then (then (many author_row 10 x) (many book_row 60)) (many customer_row 30)) (many shelf_row 12)

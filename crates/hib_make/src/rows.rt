@@ -1,12 +1,25 @@
-// The first rows of a made script. `push_...` adds a row, or all of an entity; `place` is its number, from 1.
+// The first rows of a made script. `push_...` adds a row, or so many of a form; `place` is its number, from 1.
 ghost use Rattle.std.specs.Prelude.{◌≡◌, ◌++◌, IfOk, OnOk};
 ghost use Rattle.hib_make.specs.Draws.{many};
-ghost use Rattle.hib_make.specs.Rows.{key, numbered, row, number, truth, author_row, book_row, customer_row, shelf_row, made_rows};
+ghost use Rattle.hib_make.specs.Rows.{key, numbered, row, number, truth, author_row, book_row, customer_row, shelf_row, form_row, made_rows};
 
 use crate::draws::Draws;
 use crate::entities::{AUTHOR, BOOK, CUSTOMER, SHELF};
 use hib_base::{Cell, Cells, EntityNo, Key, Row, Rows, Seq, Text};
 use std::alloc::{AllocError, Global};
+
+/// The form of a row: that of its entity.
+#[derive(Clone, Copy, Debug, PartialEq, Eq)]
+pub enum Form {
+    /// A name.
+    Author,
+    /// A title, an author, a stock and a price.
+    Book,
+    /// A name and a credit.
+    Customer,
+    /// A label, and whether it is full.
+    Shelf,
+}
 
 /// A name of a word and a number.
 pub fn numbered(alloc: Global, word: &[u8], number: u32) -> Result<Text, AllocError>
@@ -131,62 +144,40 @@ fn push_shelf(
     Ok(())
 }
 
-fn push_authors(
+/// Adds a row of a form.
+fn push_row(
     alloc: Global,
+    form: Form,
+    place: u32,
     draws: &mut Draws,
     rows: &mut Vec<(Key, Row)>,
 ) -> Result<(), AllocError>
     ensures made { OnOk result (rows.new.items
-        ≡ rows.old.items ++ (many author_row 10 draws.old).made) }
-    ensures state { OnOk result (draws.new ≡ (many author_row 10 draws.old).state) }
+        ≡ rows.old.items ++ (form_row form place draws.old).made) }
+    ensures state { OnOk result (draws.new ≡ (form_row form place draws.old).state) }
 {
-    for i in 0..10 {
-        push_author(alloc, i + 1, draws, rows)?;
+    match form {
+        Form::Author => push_author(alloc, place, draws, rows),
+        Form::Book => push_book(alloc, place, draws, rows),
+        Form::Customer => push_customer(alloc, place, draws, rows),
+        Form::Shelf => push_shelf(alloc, place, draws, rows),
     }
-    Ok(())
 }
 
-fn push_books(
+/// Adds so many rows of a form.
+fn push_rows(
     alloc: Global,
+    form: Form,
+    count: u32,
     draws: &mut Draws,
     rows: &mut Vec<(Key, Row)>,
 ) -> Result<(), AllocError>
     ensures made { OnOk result (rows.new.items
-        ≡ rows.old.items ++ (many book_row 60 draws.old).made) }
-    ensures state { OnOk result (draws.new ≡ (many book_row 60 draws.old).state) }
+        ≡ rows.old.items ++ (many (form_row form) count draws.old).made) }
+    ensures state { OnOk result (draws.new ≡ (many (form_row form) count draws.old).state) }
 {
-    for i in 0..60 {
-        push_book(alloc, i + 1, draws, rows)?;
-    }
-    Ok(())
-}
-
-fn push_customers(
-    alloc: Global,
-    draws: &mut Draws,
-    rows: &mut Vec<(Key, Row)>,
-) -> Result<(), AllocError>
-    ensures made { OnOk result (rows.new.items
-        ≡ rows.old.items ++ (many customer_row 30 draws.old).made) }
-    ensures state { OnOk result (draws.new ≡ (many customer_row 30 draws.old).state) }
-{
-    for i in 0..30 {
-        push_customer(alloc, i + 1, draws, rows)?;
-    }
-    Ok(())
-}
-
-fn push_shelves(
-    alloc: Global,
-    draws: &mut Draws,
-    rows: &mut Vec<(Key, Row)>,
-) -> Result<(), AllocError>
-    ensures made { OnOk result (rows.new.items
-        ≡ rows.old.items ++ (many shelf_row 12 draws.old).made) }
-    ensures state { OnOk result (draws.new ≡ (many shelf_row 12 draws.old).state) }
-{
-    for i in 0..12 {
-        push_shelf(alloc, i + 1, draws, rows)?;
+    for i in 0..count {
+        push_row(alloc, form, i + 1, draws, rows)?;
     }
     Ok(())
 }
@@ -198,9 +189,9 @@ pub fn rows(alloc: Global, draws: &mut Draws) -> Result<Rows, AllocError>
     ensures state { OnOk result (draws.new ≡ (made_rows draws.old).state) }
 {
     let mut rows = Vec::with_capacity(alloc, 112)?;
-    push_authors(alloc, draws, &mut rows)?;
-    push_books(alloc, draws, &mut rows)?;
-    push_customers(alloc, draws, &mut rows)?;
-    push_shelves(alloc, draws, &mut rows)?;
+    push_rows(alloc, Form::Author, 10, draws, &mut rows)?;
+    push_rows(alloc, Form::Book, 60, draws, &mut rows)?;
+    push_rows(alloc, Form::Customer, 30, draws, &mut rows)?;
+    push_rows(alloc, Form::Shelf, 12, draws, &mut rows)?;
     Ok(Seq::from_vec(rows))
 }

@@ -9,7 +9,7 @@ use Rattle.hib_journal.specs.Types.{Part, Entry}
 use Rattle.hib_journal.specs.Sessions.{Journal, same_part, same_session, last_tick}
 use Rattle.hib_split_law.specs.Merged.{AreDue, due_tick}
 use Rattle.hib_split_law.proofs.Merge.{last_few}
-use Rattle.hib_merge.specs.LastTicks.{TicksState, part_last, session_last, AreLast}
+use Rattle.hib_clock.specs.LastTicks.{TicksState, part_last, session_last, AreLast}
 use Rattle.hib_merge.specs.Tearing.{IsUndue}
 
 -- ticks that are due are few

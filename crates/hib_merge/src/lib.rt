@@ -8,7 +8,6 @@
 
 mod agreeing;
 mod differences;
-mod last_ticks;
 mod merging;
 mod order;
 mod placing;

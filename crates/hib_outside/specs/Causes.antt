@@ -1,6 +1,7 @@
 -- Counts of faults, answers that come only if one rose, and the calls that are to fail.
-use Rattle.std.specs.Prelude.{◌≡◌, ℕ, zero, suc, ◌+◌, ◌-◌, ◌^◌, ◌≤◌, min, Bool, if◌then◌else◌, ◌&&◌, List, nat_eq, nat_lt, Result, OnOk, OnErr, IfErr}
+use Rattle.std.specs.Prelude.{◌≡◌, ◌↔◌, ℕ, zero, suc, ◌+◌, ◌-◌, ◌^◌, ◌≤◌, min, Bool, true, if◌then◌else◌, ◌&&◌, List, nat_eq, nat_lt, Result, Err, OnOk, OnErr, IfErr}
 use Rattle.std.specs.List.{list_any}
+use Rattle.hib_outside.specs.declared.failing.Failing.{Failing}
 use Rattle.hib_outside.specs.declared.keeper.KeepFault.{KeepFault}
 use Rattle.hib_outside.specs.declared.keeper.KeepFault.TheVariants.{Failed}
 
@@ -38,3 +39,15 @@ failed_calls fail (suc n) = failed_calls fail n + (if is_among (suc n) fail then
 -- one more, up to the last value of a u64
 abbrev pub one_more : ℕ → ℕ
 one_more n = min (n + 1) (2 ^ 64 - 1)
+
+-- a call is counted, and fails exactly if it is to
+pub record IsCall {T : Type 0} (old new : Failing) (result : Result T KeepFault) : Type 0 where
+  pub cause : FailsByCause (failed_calls old.fail old.calls) (failed_calls new.fail new.calls) result
+  pub fails : (result ≡ Err Failed) ↔ (is_due old.fail old.calls ≡ true)
+  pub calls : new.calls ≡ next_call old.calls
+  pub fail : new.fail ≡ old.fail
+
+-- a call that asks for rows counts as asked, unless it is to fail
+pub record IsAsked (failing : Failing) (old new : ℕ) : Type 0 where
+  pub few : (old ≤ new) × (new ≤ old + 1)
+  pub counted : new ≡ (if is_due failing.fail failing.calls then old else one_more old)

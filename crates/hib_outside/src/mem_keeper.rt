@@ -1,12 +1,10 @@
 // A keeper in memory: the program's own, if no file is named, and the checks'.
-ghost use Rattle.std.specs.Prelude.{◌≡◌, ◌↔◌, ◌+◌, ◌≤◌, ◌<◌, [], if◌then◌else◌, true, length, IfOk};
+ghost use Rattle.std.specs.Prelude.{◌≡◌, ◌<◌, [], true, length, IfOk};
 ghost use Rattle.std.specs.declared.option.Option.TheVariants.{Some, None};
-ghost use Rattle.std.specs.declared.result.Result.TheVariants.{Err};
 ghost use Rattle.hib_base.specs.Tables.{row_at, in_order};
-ghost use Rattle.hib_outside.specs.Causes.{failed_calls, is_due, next_call, one_more, FailsByCause};
+ghost use Rattle.hib_outside.specs.Causes.{failed_calls, IsAsked, IsCall};
 ghost use Rattle.hib_outside.specs.Keeps.{tables_seeded, tables_after, rows_of};
 ghost use Rattle.hib_outside.specs.Verdicts.{verdict, IsPlace};
-ghost use Rattle.hib_outside.specs.declared.keeper.KeepFault.{KeepFault};
 
 use crate::{Applied, Failing, KeepFault, Keeper, Numbers, keyed, shelf};
 use hib_base::{Change, EntityNo, Key, Mapping, Row, Rows, Seq};
@@ -66,12 +64,7 @@ impl Keeper for MemKeeper {
         ensures tables { Some self.new.rows.items
             ≡ tables_seeded result mapping.now rows.now (Some self.old.rows.items) }
         ensures asked { self.new.asked ≡ self.old.asked }
-        ensures cause { FailsByCause (failed_calls self.old.failing.fail self.old.failing.calls)
-            (failed_calls self.new.failing.fail self.new.failing.calls) result }
-        ensures fails { (result ≡ Err KeepFault.Failed)
-            ↔ (is_due self.old.failing.fail self.old.failing.calls ≡ true) }
-        ensures calls { self.new.failing.calls ≡ next_call self.old.failing.calls }
-        ensures fail { self.new.failing.fail ≡ self.old.failing.fail }
+        ensures call { IsCall self.old.failing self.new.failing result }
     {
         if self.failing.comes() {
             return Err(KeepFault::Failed);
@@ -87,16 +80,8 @@ impl Keeper for MemKeeper {
     fn read(&mut self, alloc: Global, key: Key) -> Result<Option<Row>, KeepFault>
         ensures row { IfOk result (λ row. row ≡ row_at self.old.rows.items key) }
         ensures same { self.new.rows.items ≡ self.old.rows.items }
-        ensures asked { (self.old.asked ≤ self.new.asked) × (self.new.asked ≤ self.old.asked + 1) }
-        ensures counted { self.new.asked
-            ≡ (if is_due self.old.failing.fail self.old.failing.calls then self.old.asked
-            else one_more self.old.asked) }
-        ensures cause { FailsByCause (failed_calls self.old.failing.fail self.old.failing.calls)
-            (failed_calls self.new.failing.fail self.new.failing.calls) result }
-        ensures fails { (result ≡ Err KeepFault.Failed)
-            ↔ (is_due self.old.failing.fail self.old.failing.calls ≡ true) }
-        ensures calls { self.new.failing.calls ≡ next_call self.old.failing.calls }
-        ensures fail { self.new.failing.fail ≡ self.old.failing.fail }
+        ensures asked { IsAsked self.old.failing self.old.asked self.new.asked }
+        ensures call { IsCall self.old.failing self.new.failing result }
     {
         if self.failing.comes() {
             return Err(KeepFault::Failed);
@@ -111,16 +96,8 @@ impl Keeper for MemKeeper {
     fn list(&mut self, alloc: Global, entities: &[EntityNo]) -> Result<Rows, KeepFault>
         ensures rows { IfOk result (λ rows. rows ≡ rows_of entities.now self.old.rows.items) }
         ensures same { self.new.rows.items ≡ self.old.rows.items }
-        ensures asked { (self.old.asked ≤ self.new.asked) × (self.new.asked ≤ self.old.asked + 1) }
-        ensures counted { self.new.asked
-            ≡ (if is_due self.old.failing.fail self.old.failing.calls then self.old.asked
-            else one_more self.old.asked) }
-        ensures cause { FailsByCause (failed_calls self.old.failing.fail self.old.failing.calls)
-            (failed_calls self.new.failing.fail self.new.failing.calls) result }
-        ensures fails { (result ≡ Err KeepFault.Failed)
-            ↔ (is_due self.old.failing.fail self.old.failing.calls ≡ true) }
-        ensures calls { self.new.failing.calls ≡ next_call self.old.failing.calls }
-        ensures fail { self.new.failing.fail ≡ self.old.failing.fail }
+        ensures asked { IsAsked self.old.failing self.old.asked self.new.asked }
+        ensures call { IsCall self.old.failing self.new.failing result }
     {
         if self.failing.comes() {
             return Err(KeepFault::Failed);
@@ -137,12 +114,7 @@ impl Keeper for MemKeeper {
         ensures tables { Some self.new.rows.items
             ≡ tables_after result batch.now (Some self.old.rows.items) }
         ensures asked { self.new.asked ≡ self.old.asked }
-        ensures cause { FailsByCause (failed_calls self.old.failing.fail self.old.failing.calls)
-            (failed_calls self.new.failing.fail self.new.failing.calls) result }
-        ensures fails { (result ≡ Err KeepFault.Failed)
-            ↔ (is_due self.old.failing.fail self.old.failing.calls ≡ true) }
-        ensures calls { self.new.failing.calls ≡ next_call self.old.failing.calls }
-        ensures fail { self.new.failing.fail ≡ self.old.failing.fail }
+        ensures call { IsCall self.old.failing self.new.failing result }
     {
         if self.failing.comes() {
             return Err(KeepFault::Failed);

@@ -4,7 +4,7 @@ use Rattle.std.proofs.KnownBytes.{Appends-nil, Appends-trans}
 use Rattle.std.proofs.Math.Seq.{take-append_seam, take-append-add}
 use Rattle.std.proofs.lemmas.List.{take-append-le, take_min, take-append-drop, take_more}
 use Rattle.std.proofs.lemmas.Grind.{flat_map-append}
-use Rattle.std.specs.Prelude.{codes, flat_map, reverse, OnErr, Result, Ok, Err}
+use Rattle.std.specs.Prelude.{flat_map, reverse, OnErr, Result, Ok, Err}
 use Rattle.hib_listeners.specs.Statistics.{counted}
 use Rattle.hib_report.specs.Report.{journal_text, sessions_text, counts_text, report}
 use Rattle.hib_report.specs.Unsound.{unsound_text}
@@ -12,7 +12,7 @@ use Rattle.std.specs.declared.option.Option.{Option}
 use Rattle.std.specs.Io.KnownBytes.{Appends}
 use Rattle.hib_outside.specs.Fronts.{TakesFront}
 use Rattle.hib_report.specs.Sending.{IsSent}
-use Rattle.hib_report.specs.Lines.{line_text, lines_text}
+use Rattle.hib_report.specs.Lines.{lines_text}
 use Rattle.hib_journal.specs.Types.{Entry, Script}
 
 pub none_sent : (old : Option (List ℕ)) (text : List ℕ) → IsSent old old text text
@@ -76,10 +76,6 @@ one_line f es i e old mid text rest h q s =
     let step : flat_map f (take (i + 1) es) ≡ flat_map f (take i es) ++ f e =
     ap (flat_map f) (take_more es i e h) ∙ (flat_map-append f (take i es) (get_or es i e ∷ []) ∙ ap (λ w. flat_map f (take i es) ++ w) (append-nil (f (get_or es i e)) ∙ ap f (sym q))) in
     subst (λ w. IsSent old mid w (rest ++ f e)) (append_assoc text (flat_map f (take i es)) (f e) ∙ ap (λ w. text ++ w) (sym step)) (sent_more old mid (text ++ flat_map f (take i es)) rest (f e) s)
-
--- the line of an entry, with its end
-abbrev pub with_end : Script → Entry → List ℕ
-with_end script e = line_text script e ++ codes "\n"
 
 -- what holds whatever was answered
 pub on_err : {T E P : Type 0} (r : Result T E) → P → OnErr r P

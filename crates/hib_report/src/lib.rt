@@ -17,5 +17,5 @@ pub use fates::{Fate, Fates};
 pub use lines::line;
 pub use replies::put_reply;
 pub use report::{summary, text};
-pub use sending::{WriteStop, send, send_piece, write};
+pub use sending::{PutLine, WriteStop, send, send_lines, write};
 pub use unsound::unsound_keys;

@@ -1,9 +1,10 @@
 // The report on its way to a sink, piece by piece.
-ghost use Rattle.std.specs.Prelude.{◌≡◌, ◌++◌, [], OnOk, OnErr};
+ghost use Rattle.std.specs.Prelude.{◌≡◌, ◌++◌, ℕ, List, [], codes, flat_map, OnOk, OnErr};
 ghost use Rattle.std.specs.Io.KnownBytes.{Appends};
+ghost use Rattle.hib_base.specs.declared.entries.Entry.{Entry as AnEntry};
 ghost use Rattle.hib_outside.specs.Causes.{HasCause, Rose};
 ghost use Rattle.hib_outside.specs.Fronts.{TakesFront};
-ghost use Rattle.hib_report.specs.Lines.{lines_text};
+ghost use Rattle.hib_report.specs.Lines.{line_text};
 ghost use Rattle.hib_report.specs.Report.{report};
 ghost use Rattle.hib_report.specs.Sending.{IsSent};
 
@@ -63,7 +64,7 @@ pub fn send<W: Sink>(out: &mut W, gathered: &mut Vec<u8>) -> Result<(), Failed>
 }
 
 /// Sends what is gathered if it is a piece of 65,536 bytes or more. If the sink fails a front of it was taken.
-pub fn send_piece<W: Sink>(out: &mut W, gathered: &mut Vec<u8>) -> Result<(), Failed>
+fn send_piece<W: Sink>(out: &mut W, gathered: &mut Vec<u8>) -> Result<(), Failed>
     ensures sent { OnOk result (IsSent (W.taken out.old)
         (W.taken out.new) gathered.old.items gathered.new.items) }
     ensures front { OnErr result (TakesFront (W.taken out.old)
@@ -76,26 +77,50 @@ pub fn send_piece<W: Sink>(out: &mut W, gathered: &mut Vec<u8>) -> Result<(), Fa
     send(out, gathered)
 }
 
+/// Puts the line of an entry at the end of bytes.
+pub trait PutLine {
+    /// The line of an entry, with its end.
+    ghost line: { Self → AnEntry → List ℕ };
+
+    /// Puts it.
+    fn put(&self, alloc: Global, out: &mut Vec<u8>, entry: &Entry) -> Result<(), AllocError>
+        ensures { OnOk result (out.new.items ≡ out.old.items ++ line self.now entry.now) };
+}
+
 /// Gathers the lines of the entries, and sends them whenever there is a piece.
-fn send_lines<W: Sink>(
+pub fn send_lines<W: Sink, L: PutLine>(
     alloc: Global,
     out: &mut W,
     gathered: &mut Vec<u8>,
-    script: &Script,
+    lines: &L,
     entries: &[Entry],
 ) -> Result<(), WriteStop>
     ensures sent { OnOk result (IsSent (W.taken out.old) (W.taken out.new)
-        (gathered.old.items ++ lines_text script.now entries.now) gathered.new.items) }
+        (gathered.old.items ++ flat_map (L.line lines.now) entries.now) gathered.new.items) }
     ensures front { OnErr result (TakesFront (W.taken out.old) (W.taken out.new)
-        (gathered.old.items ++ lines_text script.now entries.now)) }
+        (gathered.old.items ++ flat_map (L.line lines.now) entries.now)) }
     ensures calm { OnOk result (W.faults out.new ≡ W.faults out.old) }
     ensures cause { result ≡ Err WriteStop.Failed → Rose (W.faults out.old) (W.faults out.new) }
 {
     for entry in entries {
-        put_entry(alloc, gathered, script, entry)?;
+        lines.put(alloc, gathered, entry)?;
         send_piece(out, gathered)?;
     }
     Ok(())
+}
+
+/// The lines of the report.
+#[derive(Drop)]
+struct ReportLines<'a> {
+    script: &'a Script,
+}
+
+impl<'a> PutLine for ReportLines<'a> {
+    ghost line = { λ l e. line_text l.script.now e ++ codes "\n" };
+
+    fn put(&self, alloc: Global, out: &mut Vec<u8>, entry: &Entry) -> Result<(), AllocError> {
+        put_entry(alloc, out, self.script, entry)
+    }
 }
 
 /// Writes the report of a journal, as `text` gives it, piece by piece: no more of it is in memory at a time than a
@@ -114,7 +139,8 @@ pub fn write<W: Sink>(
 {
     let mut gathered = Vec::new(alloc);
     put_journal(alloc, &mut gathered, journal.as_slice())?;
-    send_lines(alloc, out, &mut gathered, script, journal.as_slice())?;
+    let lines = ReportLines { script };
+    send_lines(alloc, out, &mut gathered, &lines, journal.as_slice())?;
     put_ends(alloc, &mut gathered, script, journal)?;
     send(out, &mut gathered)?;
     Ok(())

@@ -1,4 +1,6 @@
 // What is known at an entry of the entries before it: the transactions that are open, and the locks that are held.
+ghost use Rattle.std.specs.Prelude.{◌≡◌, OnErr};
+
 use hib_base::{Act, Entry, Key, SessionNo};
 use std::alloc::{AllocError, Global};
 use std::collections::BTreeMap;
@@ -110,10 +112,13 @@ impl Kept {
         Ok(open)
     }
 
-    /// A transaction begins.
-    fn begin(&mut self, track: u64, tick: u64) -> Result<(), AllocError> {
-        self.times.insert(track, tick)?;
+    /// A transaction begins. At an error none is open that wasn't, since no time was noted.
+    fn begin(&mut self, track: u64, tick: u64) -> Result<(), AllocError>
+        ensures times { OnErr result (self.new.times.entries ≡ self.old.times.entries) }
+        ensures locks { self.new.locks.entries ≡ self.old.locks.entries }
+    {
         self.begun.push(Begun { track, tick })?;
+        self.times.insert(track, tick)?;
         Ok(())
     }
 

@@ -1,6 +1,6 @@
 -- The row that a line gives, or the first thing that is wrong with it:
 -- row ENTITY ID vN CELL .. of a versioned entity, row ENTITY ID CELL .. of a plain one
-use Rattle.std.specs.Prelude.{ℕ, suc, Bool, true, false, if◌then◌else◌, ◌||◌, ◌==◌, nat_le, List, [], ◌∷◌, length, slice_get, Option, Some, None, Result, Ok, Err, ◌≡◌}
+use Rattle.std.specs.Prelude.{ℕ, suc, Bool, true, false, if◌then◌else◌, ◌==◌, nat_le, List, [], ◌∷◌, length, slice_get, Option, Some, None, Result, Ok, Err, ◌≡◌}
 use Rattle.std.specs.List.{list_any}
 use Rattle.hib_base.specs.Keys.{same_key}
 use Rattle.hib_base.specs.declared.numbers.Key.{Key}
@@ -10,7 +10,7 @@ use Rattle.hib_base.specs.declared.rows.Row.{Row}
 use Rattle.hib_base.specs.declared.scripts.ColumnDef.{ColumnDef}
 use Rattle.hib_base.specs.declared.scripts.EntityDef.{EntityDef}
 use Rattle.hib_base.specs.Valid.{max_version}
-use Rattle.hib_lex.specs.Tokens.{is_zero, is_positive, size_of}
+use Rattle.hib_lex.specs.Tokens.{is_natural, size_of}
 use Rattle.hib_lex.specs.declared.lexer.Token.{Token}
 use Rattle.hib_mapping.specs.Parts.{word_of, entity_at}
 use Rattle.hib_columns.specs.Columns.{columns_of}
@@ -22,9 +22,6 @@ use Rattle.hib_statements.specs.declared.rows.Told.{Told}
 -- what is above the greatest version, however wide, counts as the next number
 abbrev pub capped : ℕ → ℕ
 capped n = if nat_le n max_version then n else suc max_version
-
-abbrev pub is_natural : List ℕ → Bool
-is_natural ds = is_zero ds || is_positive ds
 
 abbrev pub size_named : List ℕ → Option ℕ
 size_named ds = if is_natural ds then Some (capped (size_of ds)) else None

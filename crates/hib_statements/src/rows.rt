@@ -2,7 +2,6 @@
 ghost use Rattle.hib_lex.specs.Tokens as digits_of;
 ghost use Rattle.hib_mapping.specs.Parts.{entity_at, word_of};
 ghost use Rattle.hib_statements.specs.Rows as told_rows;
-ghost use Rattle.std.specs.List.{list_all};
 ghost use Rattle.std.specs.Prelude.{◌≡◌, IfOk, IfErr, None, if◌then◌else◌};
 
 use crate::errors::StatementError;
@@ -10,7 +9,7 @@ use crate::given::Given;
 use crate::parts::{are_typed, cells, is_key, key};
 use crate::statements::named_columns;
 use hib_base::{Cells, ColumnDef, EntityDef, EntityNo, Key, Kind, Mapping, Row};
-use hib_lex::Token;
+use hib_lex::{Token, is_natural, size_of_digits};
 use hib_mapping::{entity_number, word_bytes};
 use std::alloc::{AllocError, Global};
 
@@ -192,47 +191,21 @@ fn version_digits(is_version: bool, digits: &[u8]) -> Option<u32>
     ensures { result ≡ (if is_version then told_rows.size_named digits.now else None) }
 {
     if is_version && is_natural(digits) {
-        Some(size(digits))
+        Some(capped(digits))
     } else {
         None
     }
 }
 
-/// Whether these bytes are `0`, or digits that don't begin with 0.
-fn is_natural(digits: &[u8]) -> bool
-    ensures { result ≡ told_rows.is_natural digits.now }
-{
-    matches!(digits, [b'0']) || is_positive(digits)
-}
-
-fn is_positive(digits: &[u8]) -> bool
-    ensures { result ≡ digits_of.is_positive digits.now }
-{
-    match digits {
-        [] => false,
-        [first, ..] => *first != b'0' && are_digits(digits),
-    }
-}
-
-fn are_digits(bytes: &[u8]) -> bool
-    ensures { result ≡ list_all digits_of.is_digit bytes.now }
-{
-    bytes.iter().all(|byte| byte.is_ascii_digit())
-}
-
 /// The version that digits are; one above the greatest counts as the number after that.
-#[tactic(auto, using(crate::proofs::Digits::digit_next, crate::proofs::Digits::size_grows, crate::proofs::Digits::size_done, crate::proofs::Digits::capped_above, crate::proofs::Digits::capped_within))]
-fn size(digits: &[u8]) -> u32
+#[tactic(auto, using(crate::proofs::Digits::capped_above, crate::proofs::Digits::capped_within))]
+fn capped(digits: &[u8]) -> u32
     ensures { result ≡ told_rows.capped (digits_of.size_of digits.now) }
 {
-    let mut size: u32 = 0;
-    for digit in digits {
-        size = size * 10 + u32::from(digit.saturating_sub(b'0'));
-        if size > MOST_VERSION {
-            return MOST_VERSION + 1;
-        }
+    match size_of_digits(digits) {
+        Some(size) if size <= u64::from(MOST_VERSION) => size as u32,
+        _ => MOST_VERSION + 1,
     }
-    size
 }
 
 /// The row of a key and of what is told after it, or the first thing that is wrong.

@@ -2,7 +2,7 @@ use Rattle.std.proofs.Common.{◌≡◌, ◌+◌, ◌^◌, ◌∷◌, reverse, t
 use Rattle.hib_journal.specs.Types.{Entry}
 use Rattle.hib_journal.specs.Sessions.{Journal}
 use Rattle.hib_split_law.specs.Merged.{AreDue}
-use Rattle.hib_merge.specs.LastTicks.{AreLast}
+use Rattle.hib_clock.specs.LastTicks.{AreLast}
 use Rattle.hib_merge.specs.Tearing.{IsUndue}
 use Rattle.hib_merge.proofs.Ticking.{part_few, session_few, back_next, back_few, due_of, undue, tick_is, tick_other}
 use Rattle.hib_merge.proofs.ticks.torn_tick.Goals as goal

@@ -1,6 +1,6 @@
 use Rattle.std.proofs.Common.{reverse, take}
 use Rattle.hib_split_law.specs.Merged.{AreDue}
-use Rattle.hib_merge.specs.LastTicks.{AreLast}
+use Rattle.hib_clock.specs.LastTicks.{AreLast}
 use Rattle.hib_merge.proofs.ticks.torn_tick.Given as goal
 
 abbrev pub invariant-loop-entry : goal.invariant-loop-entry

@@ -1,10 +1,8 @@
-use Rattle.std.proofs.Common.{[], Some, sym, subst}
+use Rattle.std.proofs.Common.{[], Some, subst}
 use Rattle.hib_base.specs.Tables.{Tables}
 use Rattle.hib_engines.specs.Engines.{AreStanding}
 use Rattle.hib_engines.specs.Origin.{told_start}
 use Rattle.hib_engines.proofs.Ready.{ready}
-use Rattle.hib_audit.specs.Standing.{AreTicks, AreRoomy}
-use Rattle.hib_audit.proofs.Ticking.{ticks_begin, roomy_begin}
 use Rattle.hib_audit.proofs.auditor.Auditor.open.Goals as goal
 
 pub open_all-requires : goal.open_all-requires
@@ -16,7 +14,6 @@ returns c = record {
   engines = subst (λ (kept : Tables). AreStanding c.args.script.now (told_start c.args.script.now (Some kept)) [] c.in-Ok.engines) c.new.ensures c.in-Ok.ensures.standing;
   sessions = c.in_ok-sessions.ensures;
   written = c.in_ok-written.ensures;
-  ticks = subst (λ t. AreTicks [] t) (sym c.in_ok-ticks.ensures) (ticks_begin _ _);
-  roomy = subst (λ t. AreRoomy c.args.script.now t) (sym c.in_ok-ticks.ensures) (roomy_begin c.args.script.now);
+  ticks = c.new-ticks.ensures;
   built = ready c.args.script.now c.requires;
 }

@@ -18,7 +18,7 @@ returns c = λ script h p.
     subst (λ (a : Act). IsAnswered script (Some (start_rows script)) h None e.tick a c.in_ok-reply.reply c.evict.new.self) (sym c.requires.act)
     (c.in_ok-reply.ensures.answered script (Some (start_rows script)) h n.known.engines (evict_cached script h c.args.key e.act c.requires.act n.coming.comes) (evict_late script h c.args.key e n.coming c.requires.act)) in
     knows_evict script (start_rows script) h c.args.key e _ y n.known n.coming c.requires.by c.requires.act
-    (judged_true script (start_rows script) h None e.tick e.act c.in_ok-reply.reply e.reply c.evict.new.self v (c.is_same_reply.ensures.0 c.if-not-is_same_reply.false)) refl refl c.note.ensures
+    (judged_true script (start_rows script) h None e.tick e.act c.in_ok-reply.reply e.reply c.evict.new.self v (c.is_same_reply.ensures.0 c.if-not-is_same_reply.false)) refl refl c.in_ok-note.ensures
 
 pub returns-then-not-is_same_reply : goal.returns-then-not-is_same_reply
 returns-then-not-is_same_reply c = λ script h p z.

@@ -59,4 +59,4 @@ returns c = λ h p.
     let z : AuditorState = record { engines = c.answers.new.engines; sessions = c.advance.new.sessions.items; written = c.note_written.new.written.items; ticks = c.note.new.self } in
     knows_session script start h s e _ z n.known n.coming c.requires.by judged
     (c.in_ok-advance.ensures h n.known.sessions (ready_of script start h s e _ n.known n.coming c.requires.by).live (taken_of script start h s e c.answers.new.engines n.coming c.requires.by judged))
-    (c.in_ok-note_written.ensures script h n.known.written) c.note.ensures
+    (c.in_ok-note_written.ensures script h n.known.written) c.in_ok-note.ensures

@@ -1,7 +1,6 @@
-// The last tick of each of some numbers: of regions, or of sessions. `ticks` checks by it that each tick is the one
-// due.
+// The last tick of each of some numbers: of regions, or of sessions.
 ghost use Rattle.std.specs.Prelude.{◌≡◌, ◌==◌, ℕ, [], if◌then◌else◌, OnOk};
-ghost use Rattle.hib_merge.specs.LastTicks.{tick_in};
+ghost use Rattle.hib_clock.specs.LastTicks.{tick_in};
 
 use hib_base::Tick;
 use std::alloc::{AllocError, Global};
@@ -15,7 +14,7 @@ pub struct LastTicks {
 }
 
 impl Model for LastTicks {
-    ghost use Rattle.hib_merge.specs.LastTicks.{Numbered};
+    ghost use Rattle.hib_clock.specs.LastTicks.{Numbered};
 
     ghost Value = { Numbered };
 

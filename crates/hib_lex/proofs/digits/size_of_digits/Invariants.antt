@@ -1,6 +1,6 @@
 use Rattle.std.proofs.Common.{◌≡◌, ◌<◌, ◌^◌, drop}
 use Rattle.hib_lex.specs.Tokens as lines
-use Rattle.hib_entry_fields.proofs.fields.size.Given as goal
+use Rattle.hib_lex.proofs.digits.size_of_digits.Given as goal
 
 abbrev pub invariant-loop-digit : goal.invariant-loop-digit
 invariant-loop-digit l = record {

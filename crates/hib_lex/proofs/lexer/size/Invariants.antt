@@ -1,9 +1,0 @@
-use Rattle.std.proofs.Common.{◌≡◌, ◌<◌, ◌^◌, drop}
-use Rattle.hib_lex.specs.Tokens as lines
-use Rattle.hib_lex.proofs.lexer.size.Given as goal
-
-abbrev pub invariant-loop-digit : goal.invariant-loop-digit
-invariant-loop-digit l = record {
-  sum : lines.size_after l.size (drop l.digit-index l.digits) ≡ lines.size_of l.digits;
-  fits : l.size < 2 ^ 64;
-}
