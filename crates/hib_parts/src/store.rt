@@ -80,9 +80,7 @@ fn taken<K: Keeper, N: Name>(
 {
     let found = found?;
     match act {
-        Act::List { query }
-            if unchanged && *query == found.query() && store.is_clean(session) =>
-        {
+        Act::List { query } if unchanged && *query == found.query() && store.is_clean(session) => {
             Some(found.replies())
         }
         _ => None,
@@ -212,7 +210,16 @@ impl<K: Keeper, N: Name> StorePart<K, N> {
         ensures refused { OnErr result (self.new.refused ≡ true) }
     {
         let (store, list) = (&mut self.store, &mut self.list);
-        match serve_store(alloc, script, worker, store, list, now, self.unchanged, found) {
+        match serve_store(
+            alloc,
+            script,
+            worker,
+            store,
+            list,
+            now,
+            self.unchanged,
+            found,
+        ) {
             Ok(changed) => {
                 self.last = now;
                 self.unchanged = self.unchanged && !changed;

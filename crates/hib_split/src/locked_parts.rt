@@ -14,8 +14,8 @@ use hib_engines::{Name, Stepped};
 use hib_journal::part_of;
 use hib_outside::{Keeper, lock_soon};
 use hib_parts::{
-    Parts, RegionPart, RegistryPart, ResultsPart, StampsPart, StartList, StartRows, StorePart, Worker,
-    step_own, step_registry, step_results, step_stamps, step_store,
+    Parts, RegionPart, RegistryPart, ResultsPart, StampsPart, StartList, StartRows, StorePart,
+    Worker, step_own, step_registry, step_results, step_stamps, step_store,
 };
 use std::alloc::{AllocError, Global};
 use std::sync::atomic::{AtomicBool, AtomicUsize, Ordering};
