@@ -3,7 +3,7 @@
 use denote.RattleType.{RattleType}
 use denote.Param.Send.{IsSend, IsSync, sendable}
 use Rattle.std.proofs.Crossing.{crosses}
-use Rattle.core.proofs.once.OnceLock.TheSendSync.{the_sync as once_sync}
+use Rattle.std.proofs.sync.OnceLock.TheSendSync.{the_sync as once_sync}
 use Rattle.hib_engines.proofs.Crossing.{journal_send, session_send, registry_send, stamps_send, results_send, region_send, engine_send, cell_sync, row_sync, snapshot_send, snapshot_sync}
 use Rattle.hib_base.specs.contracts.seq.Seq as SeqT
 use Rattle.hib_base.specs.contracts.scripts.ColumnDef as ColumnT
