@@ -1,6 +1,6 @@
 // A keeper and a gate that wait for each other: a read waits until another session goes on, and that session until a
 // read has begun.
-ghost use Rattle.std.specs.Prelude.{None};
+ghost use Rattle.std.specs.Prelude.{◌≡◌, None, true};
 
 use hib_base::{Change, EntityNo, Key, Mapping, Row, Rows, Seq, SessionNo};
 use hib_outside::{Applied, Gate, KeepFault, Keeper};

@@ -1,5 +1,7 @@
 // A gate that watches which places sessions pass, and may hold two of them until each sees the other run beside it. A
 // place is the number of steps that a session has made.
+ghost use Rattle.std.specs.Prelude.{◌≡◌, true};
+
 use hib_base::SessionNo;
 use hib_outside::Gate;
 use std::sync::atomic::{AtomicU64, Ordering};
