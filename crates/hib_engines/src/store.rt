@@ -254,7 +254,7 @@ impl<K: Keeper> StoreEngine<K> {
         }
     }
 
-    /// Whether a session has written nothing since its last commit, so that it sees the committed rows.
+    /// Whether all that a session has written is committed or dropped, so that it sees the committed rows.
     pub fn is_clean(&self, session: SessionNo) -> bool
         ensures { result ≡ is_empty (changes_of self.now session) }
     {

@@ -1,4 +1,4 @@
-// The first rows of a made script. `push_...` adds a row, or so many of a form; `place` is its number, from 1.
+// The first rows of a made script. `push_...` adds a row, or a number of rows of a form; `place` is its number, from 1.
 ghost use Rattle.std.specs.Prelude.{◌≡◌, ◌++◌, IfOk, OnOk};
 ghost use Rattle.hib_make.specs.Draws.{many};
 ghost use Rattle.hib_make.specs.Rows.{key, numbered, row, number, truth, author_row, book_row, customer_row, shelf_row, form_row, made_rows};
@@ -164,7 +164,7 @@ fn push_row(
     }
 }
 
-/// Adds so many rows of a form.
+/// Adds this number of rows of a form.
 fn push_rows(
     alloc: Global,
     form: Form,

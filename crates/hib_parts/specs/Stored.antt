@@ -14,7 +14,7 @@ use Rattle.hib_split_law.specs.Apart.{store_ask_count}
 use Rattle.hib_engines.specs.Origin.{Origin}
 use Rattle.hib_parts.specs.Listed.{WorkerState}
 
--- the store's part: its entries, the newest first, whether memory ran out in a call, whether no session that has written has committed,
+-- the store's part: its entries, the newest first, whether memory ran out in a call, whether no session with changes has come to a commit,
 -- and what its keeper tells
 pub record StoredState : Type 0 where
   pub list : Journal

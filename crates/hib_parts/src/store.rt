@@ -34,7 +34,8 @@ pub struct StorePart<K: Keeper, N: Name> {
     list: Journal,
     /// Whether memory ran out in a call of `serve`.
     refused: bool,
-    /// Whether the committed rows are those at the start: no session that has written has committed.
+    /// Whether the committed rows are known to be those at the start: no session with changes has come to a commit,
+    /// whatever was answered.
     unchanged: bool,
     of: PhantomData<N>,
 }
@@ -65,7 +66,7 @@ impl<K: Keeper, N: Name> Model for StorePart<K, N> {
 }
 
 /// The replies that a list over the rows at the start is to an act, if it may be taken: the act is this list, no commit
-/// has changed the rows, and the session has written nothing.
+/// may have changed the rows, and the session has no changes.
 fn taken<K: Keeper, N: Name>(
     store: &StoreEngine<K>,
     unchanged: bool,
@@ -185,8 +186,8 @@ impl<K: Keeper, N: Name> StorePart<K, N> {
 
     /// One act of a session. The act must be due in it, and on the store. It is answered at this tick, which must be
     /// after the last ticks of both. Its entry goes to both lists, with a fault only if the keeper failed. A list that
-    /// was worked out over the rows at the start is taken as the answer, if it is one. If memory runs out both lists are
-    /// as before, the keeper was asked once at most, and `refused` says so from then on.
+    /// was worked out over the rows at the start is taken if it still is the answer. If memory runs out both lists are as
+    /// before, the keeper was asked once at most, and `refused` says so from then on.
     pub fn serve(
         &mut self,
         alloc: Global,
@@ -232,7 +233,7 @@ impl<K: Keeper, N: Name> StorePart<K, N> {
         }
     }
 
-    /// Whether the committed rows are those at the start, as no session that has written has committed.
+    /// Whether the committed rows are known to be those at the start, as no session with changes has come to a commit.
     pub fn unchanged(&self) -> bool
         ensures { result ≡ self.now.unchanged }
     {

@@ -61,8 +61,8 @@ pub fn step_registry<N: Name>(
 }
 
 /// One act of a session on the store, which must be due in it, at the tick that is due; its entry goes to both lists.
-/// A list that was worked out over the rows at the start is taken as the answer, if it is one. At an error both lists
-/// are as before, though the keeper may have been asked.
+/// A list that was worked out over the rows at the start is taken if it still is the answer. At an error both lists are
+/// as before, though the keeper may have been asked.
 pub fn step_store<K: Keeper, N: Name>(
     alloc: Global,
     script: &Script,

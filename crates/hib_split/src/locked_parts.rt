@@ -40,7 +40,7 @@ pub struct LockedParts<K: Keeper, N: Name> {
     refused: AtomicBool,
     /// The rows at the start, once a list was asked of them.
     start: OnceLock<StartRows<N>>,
-    /// Whether a commit has changed the rows.
+    /// Whether a commit may have changed the rows.
     changed: AtomicBool,
     ghost few: { sessions < 2 ^ 32 },
 }
@@ -270,7 +270,7 @@ impl<K: Keeper, N: Name> LockedParts<K, N> {
         Ok(Stepped::Did)
     }
 
-    /// What a list gives over the rows at the start, if threads share these rows and no commit has changed them so far.
+    /// What a list gives over the rows at the start, if threads share these rows and no commit may have changed them.
     /// None for another act. No lock is held.
     fn found(
         &self,
@@ -292,7 +292,8 @@ impl<K: Keeper, N: Name> LockedParts<K, N> {
         }
     }
 
-    /// Notes whether the rows have changed. If they haven't, threads share them from now on.
+    /// Notes whether the rows may have changed. If they haven't, and the store has an index of them, threads share them
+    /// from now on.
     fn share(&self, alloc: Global, script: &Script, store: &mut StorePart<K, N>)
         ensures { store.new ≡ store.old }
     {
@@ -308,7 +309,8 @@ impl<K: Keeper, N: Name> LockedParts<K, N> {
     }
 
     /// Answers the act that is due in a session under the lock of the store, which it must be on. A list over the rows at
-    /// the start is worked out before the lock is taken. It is the answer unless a commit came between.
+    /// the start is worked out before the lock is taken. It is the answer unless a commit came between, or the session
+    /// has changes of its own.
     fn step_store<R: Wait>(
         &self,
         rt: &R,
