@@ -186,8 +186,8 @@ impl<K: Keeper, N: Name> StorePart<K, N> {
 
     /// One act of a session. The act must be due in it, and on the store. It is answered at this tick, which must be
     /// after the last ticks of both. Its entry goes to both lists, with a fault only if the keeper failed. A list that
-    /// was worked out over the rows at the start is taken if it still is the answer. If memory runs out both lists are as
-    /// before, the keeper was asked once at most, and `refused` says so from then on.
+    /// was worked out over the rows at the start is taken if it still is the answer. If memory runs out both lists are
+    /// as before, the keeper was asked once at most, and `refused` says so from then on.
     pub fn serve(
         &mut self,
         alloc: Global,

@@ -30,8 +30,8 @@ use std::thread::Threads;
 /// steps one after the other: before a step it passes the gate, with the number of the session's entries so far, and
 /// for a step it takes the lock of the part that is due, or none for an act of the session's own. Lists are worked out
 /// before the lock is taken, as long as no commit may have changed rows. The tick of a step is one more than the
-/// greater of the last ticks of its part and of its session. After the workers have ended, the caller steps the sessions
-/// to their ends.
+/// greater of the last ticks of its part and of its session. After the workers have ended, the caller steps the
+/// sessions to their ends.
 ///
 /// What stands behind a lock is known by its type alone, so the region that a lock gave is compared with the one that
 /// was asked for. If they differ, `strange` says so, the rest isn't run, and there are no lists. If memory runs out, or
