@@ -1,5 +1,5 @@
-// What an act tells with its reply: whose changes are committed, whether a session's instances leave, and whether a lock
-// had run out.
+// What an act tells with its reply: whose changes are committed, whether a session's instances leave, and whether a
+// lock had run out.
 ghost use Rattle.std.specs.Prelude.{◌≡◌, not};
 ghost use Rattle.hib_journal.specs.Held.{is_break};
 ghost use Rattle.hib_journal.specs.Sessions.{committer};

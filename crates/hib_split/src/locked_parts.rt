@@ -308,9 +308,9 @@ impl<K: Keeper, N: Name> LockedParts<K, N> {
         }
     }
 
-    /// Answers the act that is due in a session under the lock of the store, which it must be on. A list over the rows at
-    /// the start is worked out before the lock is taken. It is the answer unless a commit came between, or the session
-    /// has changes of its own.
+    /// Answers the act that is due in a session under the lock of the store, which it must be on. A list over the rows
+    /// at the start is worked out before the lock is taken. It is the answer unless a commit came between, or the
+    /// session has changes of its own.
     fn step_store<R: Wait>(
         &self,
         rt: &R,
