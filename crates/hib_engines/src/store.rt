@@ -265,6 +265,9 @@ impl<K: Keeper> StoreEngine<K> {
     /// list that asks for it makes it anew. Nothing else changes, and it takes no memory.
     pub fn give_snapshot(&mut self) -> Option<Snapshot>
         ensures of { IfSome result (IsSnapshotOf self.old.tables) }
+        ensures there { is_some result ≡ self.old.indexed }
+        ensures first { IfSome result (λ s. s.entities ≡ self.old.entities) }
+        ensures indexed { self.new.indexed ≡ false }
         ensures tables { self.new.tables ≡ self.old.tables }
         ensures faults { self.new.faults ≡ self.old.faults }
         ensures asked { self.new.asked ≡ self.old.asked }

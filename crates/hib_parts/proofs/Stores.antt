@@ -1,10 +1,10 @@
 -- The part of the store goes on: it stands for its list with one entry more, and its keeper's counts rise as the list says.
 use Rattle.std.specs.Prelude.{cond, unwrap_or, slice_get, MatchOption}
-use Rattle.std.proofs.Common.{◌≡◌, ◌⊎◌, ◌<◌, ◌≤◌, ◌+◌, ◌^◌, ℕ, Bool, true, false, [], ◌∷◌, Some, None, Option, refl, sym, ap, ◌∙◌, subst, arith, inl, inr}
+use Rattle.std.proofs.Common.{◌≡◌, ◌⊎◌, ◌<◌, ◌≤◌, ◌+◌, ◌^◌, ℕ, Bool, true, false, List, [], ◌∷◌, Some, None, Option, refl, sym, ap, ◌∙◌, subst, arith, inl, inr}
 use Rattle.std.proofs.lemmas.Bool.{true≢false, false≢true}
 use Rattle.hib_base.specs.Tables.{Tables}
 use Rattle.hib_base.proofs.Tables.{Tested, tested}
-use Rattle.hib_journal.specs.Types.{Commit, Script, Act, Reply, Part, Query}
+use Rattle.hib_journal.specs.Types.{Change, Commit, Entry, Script, Act, Reply, Part, Query}
 use Rattle.hib_journal.specs.Sessions.{Journal, is_empty}
 use Rattle.hib_journal.specs.Legal.{part_of, is_of_store}
 use Rattle.hib_journal.specs.Lists.{entry_at, unsaved, IsStoreReply}
@@ -15,7 +15,7 @@ use Rattle.hib_store.specs.Stores.{StoreState, changes_of, IsListed}
 use Rattle.hib_store.specs.declared.store.Listed.{Listed}
 use Rattle.hib_engines.specs.Counts.{RoseBy, RoseWithin}
 use Rattle.hib_engines.specs.Served.{is_for, HasQuery, reads}
-use Rattle.hib_engines.specs.Store.{IsStored, IsStoreServed, IsCounted}
+use Rattle.hib_engines.specs.Store.{IsStored, IsStoreServed, IsCounted, changes_rows}
 use Rattle.hib_split_law.specs.Apart.{store_ask_count}
 use Rattle.hib_engines.specs.Built.{IsBuilt}
 use Rattle.hib_engines.specs.Origin.{Origin}
@@ -89,6 +89,21 @@ store_step script told l x y w a now r stands on d t f g =
       asked = subst (λ cs. RoseWithin x.asked (cond (asks cs a) 1 0) y.asked) (stands.changes w.number) g;
     }
 
+-- ---- whether the rows may have changed
+
+-- what is known of the act that was made holds of that of the entry which was added
+said_of : (l k : Journal) (n m now : ℕ) (a : Act) (r : Reply) (b : Bool) → k ≡ entry_at now (Some n) a r ∷ l → b ≡ changes_rows (unsaved m l) a →
+    (e : Entry) → k ≡ e ∷ l → b ≡ changes_rows (unsaved m l) e.act
+said_of l k n m now a r b q h e g = h ∙ ap (λ (x : Entry). changes_rows (unsaved m l) x.act) (head q g)
+  where
+    head : k ≡ entry_at now (Some n) a r ∷ l → k ≡ e ∷ l → entry_at now (Some n) a r ≡ e
+    head u v = cc
+
+pub may_change : (script : Script) (told : Option Tables) (l k : Journal) (n now : ℕ) (x : StoreState) (w v : WorkerState) (a : Act) (r : Reply) (b : Bool) → IsKept w v → n ≡ v.number → IsStored told l x →
+    k ≡ entry_at now (Some w.number) a r ∷ l → b ≡ changes_rows (changes_of x n) a → (e : Entry) → k ≡ e ∷ l → b ≡ changes_rows (unsaved w.number l) e.act
+may_change script told l k n now x w v a r b kept number stands q h =
+    said_of l k w.number w.number now a r b q (h ∙ ap (λ cs. changes_rows cs a) (ap (changes_of x) (number ∙ kept.number) ∙ stands.changes w.number))
+
 -- ---- a list over the rows at the start
 
 start_served : (script : Script) (told : Option Tables) (l : Journal) (now s : ℕ) (a : Act) (r : Reply) (x : StoreState) → IsStored told l x → x.tables ≡ told → changes_of x s ≡ [] →
@@ -107,9 +122,17 @@ start_calm script told (Act.List q) (Reply.Listed cells) g p = false≢true p
 start_calm script told (Act.List q) r g p = absurd g
 start_calm script told a r g p = absurd g
 
+start_stays : (script : Script) (told : Option Tables) (a : Act) (r : Reply) (cs : List Change) → IsStartReply script told a r → changes_rows cs a ≡ false
+start_stays script told (Act.List q) r cs g = refl
+start_stays script told a r cs g = absurd g
+
 within_same : (n : ℕ) (b : Bool) → RoseWithin n (cond b 1 0) n
 within_same n true = record { later = omega arith; few = omega arith }
 within_same n false = record { later = omega arith; few = omega arith }
+
+pub start_keeps : (script : Script) (told : Option Tables) (l k : Journal) (n now : ℕ) (a : Act) (r : Reply) → k ≡ entry_at now (Some n) a r ∷ l → IsStartReply script told a r →
+    (e : Entry) → k ≡ e ∷ l → false ≡ changes_rows (unsaved n l) e.act
+start_keeps script told l k n now a r q g = said_of l k n n now a r false q (sym (start_stays script told a r (unsaved n l) g))
 
 pub start_on : (script : Script) (told : Option Tables) (l : Journal) (n : ℕ) (x : StoreState) (w v : WorkerState) (a : Act) (now : ℕ) (r : Reply) → IsKept w v → n ≡ v.number →
     IsStored told l x → IsDueOn script Part.Store w → IsDueAct script w a → IsLater now l w.list → x.tables ≡ told → changes_of x n ≡ [] → IsStartReply script told a r →

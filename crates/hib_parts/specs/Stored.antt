@@ -15,7 +15,7 @@ use Rattle.hib_engines.specs.Origin.{Origin}
 use Rattle.hib_parts.specs.Listed.{WorkerState}
 
 -- the store's part: its entries, the newest first, whether memory ran out in a call, whether no session with changes has come to a commit,
--- and what its keeper tells
+-- what its keeper tells, and whether the index of the rows of the first entities stands, and of how many
 pub record StoredState : Type 0 where
   pub list : Journal
   pub refused : Bool
@@ -23,6 +23,18 @@ pub record StoredState : Type 0 where
   pub tables : Option Tables
   pub faults : ℕ
   pub asked : ℕ
+  pub indexed : Bool
+  pub entities : ℕ
+
+-- but for its index the store's part is as before
+pub record DiffersInIndex (x y : StoredState) : Type 0 where
+  pub list : y.list ≡ x.list
+  pub refused : y.refused ≡ x.refused
+  pub unchanged : y.unchanged ≡ x.unchanged
+  pub tables : y.tables ≡ x.tables
+  pub faults : y.faults ≡ x.faults
+  pub asked : y.asked ≡ x.asked
+  pub entities : y.entities ≡ x.entities
 
 -- the store stands for the part's list, its keeper has failed as often as the list says, and unless memory ran out in a call it was
 -- asked no more often than the list says

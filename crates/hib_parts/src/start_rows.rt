@@ -1,7 +1,7 @@
 // Lists that are worked out beside the store, over the rows at the start.
-ghost use Rattle.std.specs.Prelude.{◌≡◌, IfOk, IfSome};
+ghost use Rattle.std.specs.Prelude.{◌≡◌, true, is_some, slice_get, MatchOption, IfOk, IfSome};
 ghost use Rattle.hib_base.specs.declared.entries.Act.{Act};
-ghost use Rattle.hib_store.specs.Stores.{IsSnapshotOf};
+ghost use Rattle.hib_store.specs.Stores.{IsSnapshotOf, ReadsBelow};
 ghost use Rattle.hib_parts.specs.Stored.{IsStartReply};
 
 use crate::copied::copied;
@@ -90,8 +90,8 @@ impl<N: Name> StartRows<N> {
         }
     }
 
-    /// What a query of the script gives over the rows. None if there is no such query, or if it reads entities whose
-    /// rows aren't here. Fails for want of memory alone.
+    /// What a query of the script gives over the rows. None if and only if there is no such query, or it reads other
+    /// entities than the first ones, whose rows these are. Fails for want of memory alone.
     pub fn list(
         &self,
         alloc: Global,
@@ -99,7 +99,12 @@ impl<N: Name> StartRows<N> {
         query: QueryNo,
     ) -> Result<Option<StartList<N>>, AllocError>
         requires { script.now ≡ N.script }
-        ensures { IfOk result (λ found. IfSome found (λ l. l.query ≡ query)) }
+        ensures query { IfOk result (λ found. IfSome found (λ l. l.query ≡ query)) }
+        ensures there { IfOk result (λ found. IfSome (slice_get N.script.queries query)
+            (λ d. ReadsBelow self.now.entities d → is_some found ≡ true)) }
+        ensures only { IfOk result (λ found. is_some found ≡ true
+            → MatchOption (slice_get N.script.queries query) ⊥
+            (λ d. ReadsBelow self.now.entities d)) }
     {
         let Some(asked) = script.queries.as_slice().get(query.0 as usize) else {
             return Ok(None);

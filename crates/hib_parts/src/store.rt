@@ -1,20 +1,20 @@
 // The store as a part, with the list of its entries.
-ghost use Rattle.std.specs.Prelude.{◌≡◌, ◌≤◌, ◌^◌, [], ◌∷◌, true, false, IfOk, IfErr, IfSome, IsSome, OnOk, OnErr};
+ghost use Rattle.std.specs.Prelude.{◌≡◌, ◌≤◌, ◌^◌, ◌&&◌, not, [], ◌∷◌, length, true, false, is_some, None, Ok, IfOk, IfErr, IfSome, IsSome, OnOk, OnErr};
 ghost use Rattle.std.specs.Option.{option_map};
 ghost use Rattle.hib_base.specs.declared.entries.Entry.{Entry};
 ghost use Rattle.hib_base.specs.declared.entries.Part.{Part};
 ghost use Rattle.hib_journal.specs.Kept.{past};
-ghost use Rattle.hib_journal.specs.Lists.{stored};
+ghost use Rattle.hib_journal.specs.Lists.{stored, unsaved};
 ghost use Rattle.hib_journal.specs.Runs.{fault_count, is_fault};
 ghost use Rattle.hib_outside.specs.Causes.{Rose};
 ghost use Rattle.hib_store.specs.Stores.{changes_of, handed_back, is_store_fault};
 ghost use Rattle.hib_split_law.specs.Apart.{IsPartLegal, store_ask_count};
 ghost use Rattle.hib_engines.specs.Counts.{RoseBy, RoseWithin};
-ghost use Rattle.hib_engines.specs.Store.{IsCounted, IsStored};
+ghost use Rattle.hib_engines.specs.Store.{IsCounted, IsStored, changes_rows};
 ghost use Rattle.hib_engines.specs.Origin.{origin_over};
 ghost use Rattle.hib_engines.specs.Built.{IsBuilt};
 ghost use Rattle.hib_parts.specs.Listed.{AreOf, IsDueOn, IsEntered, IsLater, IsKept, last_of};
-ghost use Rattle.hib_parts.specs.Stored.{IsStartReply, IsStoreEntered};
+ghost use Rattle.hib_parts.specs.Stored.{DiffersInIndex, IsStartReply, IsStoreEntered};
 
 use crate::entering::{enter_answer, enter_both, prepared};
 use crate::start_rows::{StartList, StartRows};
@@ -57,6 +57,8 @@ impl<K: Keeper, N: Name> Model for StorePart<K, N> {
       tables = p.store.tables;
       faults = p.store.faults;
       asked = p.store.asked;
+      indexed = p.store.indexed;
+      entities = p.store.entities;
     } };
 
     ghost invariant = { λ p. IsBuilt N.script
@@ -113,6 +115,9 @@ fn serve_store<K: Keeper, N: Name>(
     ensures same { OnErr result (past list.new ≡ past list.old) }
     ensures counted { OnErr result (IsCounted store.old store.new) }
     ensures rows { IfOk result (λ changed. changed ≡ false → store.new.tables ≡ store.old.tables) }
+    ensures may { IfOk result (λ changed. (e : Entry) → past list.new ≡ e ∷ past list.old
+        → changed ≡ changes_rows (unsaved worker.old.number (past list.old)) e.act) }
+    ensures entities { store.new.entities ≡ store.old.entities }
 {
     let acts = prepared(alloc, script, worker, list)?;
     let number = worker.number();
@@ -137,6 +142,7 @@ impl<K: Keeper, N: Name> StorePart<K, N> {
         ensures list { IfOk result (λ p. p.list ≡ []) }
         ensures going { IfOk result (λ p. p.refused ≡ false) }
         ensures unchanged { IfOk result (λ p. p.unchanged ≡ true) }
+        ensures entities { IfOk result (λ p. p.entities ≡ length N.script.mapping) }
         ensures back { IfErr result (λ e. K.tables (handed_back e) ≡ K.tables keeper) }
         ensures back_faults { IfErr result (λ e. K.faults keeper ≤ K.faults (handed_back e)) }
         ensures back_asked { IfErr result (λ e. K.asked (handed_back e) ≡ K.asked keeper) }
@@ -205,8 +211,13 @@ impl<K: Keeper, N: Name> StorePart<K, N> {
         ensures fault { OnOk result ((e : Entry) → self.new.list ≡ e ∷ self.old.list
             → is_fault e.reply ≡ true → Rose self.old.faults self.new.faults) }
         ensures going { OnOk result (self.new.refused ≡ self.old.refused) }
+        ensures unchanged { OnOk result ((e : Entry) → self.new.list ≡ e ∷ self.old.list
+            → self.new.unchanged ≡ self.old.unchanged
+            && not (changes_rows (unsaved worker.old.number self.old.list) e.act)) }
+        ensures entities { self.new.entities ≡ self.old.entities }
         ensures kept { OnErr result (IsKept worker.old worker.new) }
         ensures same { OnErr result (self.new.list ≡ self.old.list) }
+        ensures still { OnErr result (self.new.unchanged ≡ self.old.unchanged) }
         ensures tables { OnErr result (self.new.tables ≡ self.old.tables) }
         ensures refused { OnErr result (self.new.refused ≡ true) }
     {
@@ -241,20 +252,29 @@ impl<K: Keeper, N: Name> StorePart<K, N> {
     }
 
     /// The committed rows at the start, made ready for the script's queries, if they still stand and the store has an
-    /// index of them. The store gives its index away for that, and makes another if a list asks for it. None as well if
-    /// memory runs out.
-    pub fn share(&mut self, alloc: Global, script: &Script) -> Option<StartRows<N>>
-        ensures same { self.new ≡ self.old }
-        ensures unchanged { IsSome result → self.old.unchanged ≡ true }
+    /// index of them. The store gives its index away for that, also if memory runs out, and makes another if a list
+    /// asks for it. Fails for want of memory alone.
+    pub fn share(
+        &mut self,
+        alloc: Global,
+        script: &Script,
+    ) -> Result<Option<StartRows<N>>, AllocError>
+        ensures there { self.old.unchanged ≡ true
+            → IfOk result (λ r. is_some r ≡ self.old.indexed) }
+        ensures none { self.old.unchanged ≡ false → result ≡ Ok None }
+        ensures first { IfOk result (λ r. IfSome r (λ s. s.entities ≡ self.old.entities)) }
+        ensures given { self.old.unchanged ≡ true → self.new.indexed ≡ false }
+        ensures kept { self.old.unchanged ≡ false → self.new ≡ self.old }
+        ensures same { DiffersInIndex self.old self.new }
     {
         if !self.unchanged {
-            return None;
+            return Ok(None);
         }
-        let mut snapshot = self.store.give_snapshot()?;
-        match snapshot.ready(alloc, script.queries.as_slice()) {
-            Ok(()) => Some(StartRows::of(snapshot)),
-            Err(_) => None,
-        }
+        let Some(mut snapshot) = self.store.give_snapshot() else {
+            return Ok(None);
+        };
+        snapshot.ready(alloc, script.queries.as_slice())?;
+        Ok(Some(StartRows::of(snapshot)))
     }
 
     /// Takes the part apart: the keeper, and the entries, which are legal by themselves. What the keeper tells is what

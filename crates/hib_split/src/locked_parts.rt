@@ -4,6 +4,7 @@ ghost use Rattle.hib_journal.specs.Next.{next};
 ghost use Rattle.hib_base.specs.declared.entries.Part.{Part};
 ghost use Rattle.hib_parts.specs.Listed.{IsDueOn};
 ghost use Rattle.hib_parts.specs.Run.{entities_of};
+ghost use Rattle.hib_parts.specs.Stored.{DiffersInIndex};
 
 use crate::ended::Ended;
 use crate::halt::Halt;
@@ -12,11 +13,12 @@ use crate::strange::Strange;
 use hib_base::{Act, Part, Script, SessionNo};
 use hib_engines::{Name, Stepped};
 use hib_journal::part_of;
-use hib_outside::{Keeper, lock_soon};
+use hib_outside::Keeper;
 use hib_parts::{
     Parts, RegionPart, RegistryPart, ResultsPart, StampsPart, StartList, StartRows, StorePart,
     Worker, step_own, step_registry, step_results, step_stamps, step_store,
 };
+use hib_threads::lock_soon;
 use std::alloc::{AllocError, Global};
 use std::sync::atomic::{AtomicBool, AtomicUsize, Ordering};
 use std::sync::{Mutex, OnceLock, Wait};
@@ -40,8 +42,9 @@ pub struct LockedParts<K: Keeper, N: Name> {
     refused: AtomicBool,
     /// The rows at the start, once a list was asked of them.
     start: OnceLock<StartRows<N>>,
-    /// Whether a commit may have changed the rows.
-    changed: AtomicBool,
+    /// Whether no list is worked out over these rows any more: a commit may have changed them, or memory ran out as
+    /// they were to be shared.
+    unshared: AtomicBool,
     ghost few: { sessions < 2 ^ 32 },
 }
 
@@ -154,7 +157,7 @@ impl<K: Keeper, N: Name> LockedParts<K, N> {
             strange: Mutex::new(None),
             refused: AtomicBool::new(false),
             start: OnceLock::new(),
-            changed: AtomicBool::new(false),
+            unshared: AtomicBool::new(false),
         }
     }
 
@@ -181,7 +184,7 @@ impl<K: Keeper, N: Name> LockedParts<K, N> {
             strange,
             refused,
             start: _,
-            changed: _,
+            unshared: _,
         } = self;
         let mut regions = room;
         let unlocked = unlock_regions(locks, &mut regions);
@@ -283,7 +286,7 @@ impl<K: Keeper, N: Name> LockedParts<K, N> {
         let Act::List { query } = act else {
             return Ok(None);
         };
-        if self.changed.load(Ordering::SeqCst) {
+        if self.unshared.load(Ordering::SeqCst) {
             return Ok(None);
         }
         match self.start.get() {
@@ -293,18 +296,23 @@ impl<K: Keeper, N: Name> LockedParts<K, N> {
     }
 
     /// Notes whether the rows may have changed. If they haven't, and the store has an index of them, threads share them
-    /// from now on.
+    /// from now on. If memory runs out while they are made ready, they are never shared.
     fn share(&self, alloc: Global, script: &Script, store: &mut StorePart<K, N>)
-        ensures { store.new ≡ store.old }
+        ensures { DiffersInIndex store.old store.new }
     {
         if !store.unchanged() {
-            self.changed.store(true, Ordering::SeqCst);
+            self.unshared.store(true, Ordering::SeqCst);
             return;
         }
-        if self.start.get().is_none() {
-            if let Some(rows) = store.share(alloc, script) {
+        if self.start.get().is_some() {
+            return;
+        }
+        match store.share(alloc, script) {
+            Ok(Some(rows)) => {
                 let _ = self.start.try_set(rows);
             }
+            Ok(None) => {}
+            Err(_) => self.unshared.store(true, Ordering::SeqCst),
         }
     }
 

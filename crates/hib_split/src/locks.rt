@@ -8,8 +8,8 @@ use crate::halt::Halt;
 use crate::strange::{Strange, compared};
 use hib_base::{EntityNo, Script};
 use hib_engines::Name;
-use hib_outside::lock_soon;
 use hib_parts::{RegionPart, Worker, step_region};
+use hib_threads::lock_soon;
 use std::alloc::Global;
 use std::sync::{Mutex, Wait};
 

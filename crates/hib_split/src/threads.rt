@@ -11,9 +11,9 @@ use hib_base::{Query, Script};
 use hib_engines::{Name, Stepped};
 use hib_outside::{Gate, Keeper};
 use hib_parts::{Parts, Worker};
+use hib_threads::spread;
 use std::alloc::Global;
 use std::sync::Wait;
-use std::thread;
 use std::thread::Threads;
 
 /// Puts each part behind a lock of its own, has the threads step the sessions, and takes the parts out again. There
@@ -68,19 +68,6 @@ fn take_turns<R: Threads + Wait + Sync, K: Keeper, N: Name + Send + Sync, G: Gat
         requires { script.now ≡ N.script }
     { serve(rt, alloc, locked, script, gate) };
     spread(rt, workers, &work);
-}
-
-/// Has `workers` threads do this work, of which this one is the last, and waits for their ends. One that can't be
-/// started is done without.
-fn spread<R: Threads + Wait + Sync, F: Fn() + Sync>(rt: &R, workers: u32, work: &F)
-    requires { F.pre work.now }
-{
-    thread::scope(thread::scope_env(), rt, |scope| {
-        for _ in 1..workers {
-            let _ = scope.spawn(move || work());
-        }
-        work();
-    });
 }
 
 /// What a thread does: it takes sessions until none is left, or it has to stop. Of a session at its end it leaves the

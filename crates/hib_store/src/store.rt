@@ -256,6 +256,7 @@ impl<K: Keeper> Store<K> {
     pub fn give_snapshot(&mut self) -> Option<Snapshot>
         ensures of { IfSome result (IsSnapshotOf self.old.tables) }
         ensures there { is_some result ≡ self.old.indexed }
+        ensures first { IfSome result (λ s. s.entities ≡ self.old.entities) }
         ensures indexed { self.new.indexed ≡ false }
         ensures tables { self.new.tables ≡ self.old.tables }
         ensures faults { self.new.faults ≡ self.old.faults }

@@ -1,5 +1,5 @@
 // Workers step the sessions of a factory, each a session at a time. It is what `work` does.
-ghost use Rattle.std.specs.Prelude.{◌≡◌, ◌≤◌, ◌<◌, ◌^◌, true, false, length, IfSome};
+ghost use Rattle.std.specs.Prelude.{◌≡◌, ◌≤◌, ◌<◌, ◌^◌, true, false, length, IfOk, IfSome};
 ghost use denote.Param.Send.{IsSend};
 ghost use Rattle.hib_journal.specs.Kept.{past};
 ghost use Rattle.hib_session.specs.Bound.{outside_count};
@@ -11,12 +11,12 @@ use crate::desk::{Desk, Handed};
 use hib_base::{Query, SessionNo};
 use hib_core::Factory;
 use hib_engines::{Name, Stepped};
-use hib_outside::{Gate, Keeper, Listener, lock_soon};
+use hib_outside::{Gate, Keeper, Listener};
+use hib_threads::spread;
 use std::alloc::{AllocError, Global};
 use std::marker::Brand;
 use std::sync::atomic::{AtomicUsize, Ordering};
 use std::sync::{Mutex, Wait};
-use std::thread;
 use std::thread::Threads;
 
 /// What comes of a factory on which workers took turns.
@@ -27,14 +27,14 @@ pub struct Worked<K: Keeper, N: Name, L: Listener> {
     pub out_of_memory: bool,
 }
 
-/// How many steps of a session a worker makes at most before it gives the factory's lock back, if the gate holds
-/// nobody.
+/// How many steps a worker makes at most before it gives the factory's lock back, if the gate holds nobody.
 const STEPS: u32 = 64;
 
 /// Runs each session to its end, on `workers` threads, of which the caller's is one. Each takes the next session that
 /// nobody has taken, and makes its steps one after the other: before a step it passes the gate, and for a step it takes
-/// the factory's lock. If the gate holds nobody, it passes it once and keeps the lock for up to 64 steps. What they
-/// leave undone is done here once they have ended. Once memory has run out no further step is made.
+/// the factory's lock. If the gate holds nobody, it passes it once and keeps the lock for up to 64 steps, of a session
+/// and of those that it takes after that. What they leave undone is done here once they have ended. Once memory has run
+/// out no further step is made.
 pub fn work<R: Threads + Wait + Sync, K: Keeper, N: Name + Send + Sync, L: Listener, G: Gate>(
     rt: &R,
     alloc: Global,
@@ -82,6 +82,15 @@ fn work_from<
     }
 }
 
+/// Where a worker is.
+#[derive(Clone, Copy)]
+struct At {
+    /// The session whose steps it makes.
+    number: SessionNo,
+    /// How many entries that has so far, or 4294967295 if there are more.
+    place: u32,
+}
+
 /// What workers share: the factory behind its lock, and the number of the next session that nobody has taken.
 struct Bench<K: Keeper, N: Name, L: Listener, H: Handed> {
     desk: Mutex<Desk<K, N, L, H>>,
@@ -101,6 +110,17 @@ impl<K: Keeper, N: Name, L: Listener, H: Handed> Bench<K, N, L, H> {
             return None;
         }
         Some(SessionNo(number as u32))
+    }
+
+    /// Where a worker is that takes the next session, or none if all are taken.
+    fn begin(&self, desk: &Desk<K, N, L, H>) -> Option<At>
+        ensures { IfSome result (λ at. at.number < length N.script.sessions) }
+    {
+        let number = self.take_session()?;
+        Some(At {
+            number,
+            place: desk.place_of(number),
+        })
     }
 }
 
@@ -146,37 +166,7 @@ fn take_turns<
     spread(rt, workers, &move || serve(rt, alloc, bench, gate));
 }
 
-/// Has `workers` threads do this work, of which this one is the last, and waits for their ends. One that can't be
-/// started is done without.
-fn spread<R: Threads + Wait + Sync, F: Fn() + Sync>(rt: &R, workers: u32, work: &F)
-    requires { F.pre work.now }
-{
-    thread::scope(thread::scope_env(), rt, |scope| {
-        for _ in 1..workers {
-            let _ = scope.spawn(move || work());
-        }
-        work();
-    });
-}
-
-/// What a worker does: it takes sessions until none is left, or memory runs out.
-fn serve<H: Handed, R: Wait, K: Keeper, N: Name, L: Listener, G: Gate>(
-    rt: &R,
-    alloc: Global,
-    bench: &Bench<K, N, L, H>,
-    gate: &G,
-) {
-    for _ in rt.forever() {
-        let Some(number) = bench.take_session() else {
-            break;
-        };
-        if run_session(rt, alloc, bench, number, gate).is_err() {
-            break;
-        }
-    }
-}
-
-/// How many steps of a session a worker makes at most before it gives the lock back: one, if the gate may hold it.
+/// How many steps a worker makes at most before it gives the lock back: one, if the gate may hold it.
 fn steps_at_once<G: Gate>(gate: &G) -> u32
     ensures one { G.holds gate.now ≡ true → result ≡ 1 }
     ensures few { (1 ≤ result) × (result ≤ 64) }
@@ -184,51 +174,56 @@ fn steps_at_once<G: Gate>(gate: &G) -> u32
     if gate.may_hold() { 1 } else { STEPS }
 }
 
-/// Steps a session to its end. The lock is free while the gate holds the worker.
-fn run_session<H: Handed, R: Wait, K: Keeper, N: Name, L: Listener, G: Gate>(
+/// What a worker does: it takes sessions until none is left, or memory runs out. The lock is free while the gate holds
+/// the worker.
+fn serve<H: Handed, R: Wait, K: Keeper, N: Name, L: Listener, G: Gate>(
     rt: &R,
     alloc: Global,
     bench: &Bench<K, N, L, H>,
-    number: SessionNo,
     gate: &G,
-) -> Result<(), AllocError>
-    requires { number < length N.script.sessions }
-{
+) {
     let most = steps_at_once(gate);
-    let mut place = lock_soon(rt, &bench.desk).place_of(number);
+    let Some(first) = bench.begin(&*bench.desk.lock(rt)) else {
+        return;
+    };
+    let mut at = first;
     for _ in rt.forever() {
-        gate.pass(number, place);
-        let mut held = lock_soon(rt, &bench.desk);
-        match make_steps(alloc, &mut *held, number, most)? {
-            Made::Steps(count) => place = place.saturating_add(count),
-            Made::All => break,
-        }
+        gate.pass(at.number, at.place);
+        let mut held = bench.desk.lock(rt);
+        let Ok(Some(next)) = make_steps(alloc, bench, &mut *held, at, most) else {
+            break;
+        };
+        at = next;
     }
-    Ok(())
 }
 
-/// What a worker has made of a session while it held the lock.
-enum Made {
-    /// A number of steps, and more may follow.
-    Steps(u32),
-    /// All, to its end.
-    All,
-}
-
-/// Makes `most` steps of a session, or fewer to its end, under the lock.
+/// Makes `most` steps under the lock, of this session and of those that are taken at its end. Answers where the worker
+/// is after them, or none if no session is left.
 fn make_steps<H: Handed, K: Keeper, N: Name, L: Listener>(
     alloc: Global,
+    bench: &Bench<K, N, L, H>,
     desk: &mut Desk<K, N, L, H>,
-    number: SessionNo,
+    from: At,
     most: u32,
-) -> Result<Made, AllocError>
-    requires { number < length N.script.sessions }
+) -> Result<Option<At>, AllocError>
+    requires { from.number < length N.script.sessions }
+    ensures { IfOk result (λ o. IfSome o (λ at. at.number < length N.script.sessions)) }
 {
+    let At {
+        mut number,
+        mut place,
+    } = from;
     for _ in 0..most {
         match desk.step(alloc, number)? {
-            Stepped::Did => {}
-            Stepped::Done => return Ok(Made::All),
+            Stepped::Did => place = place.saturating_add(1),
+            Stepped::Done => {
+                let Some(next) = bench.begin(desk) else {
+                    return Ok(None);
+                };
+                number = next.number;
+                place = next.place;
+            }
         }
     }
-    Ok(Made::Steps(most))
+    Ok(Some(At { number, place }))
 }

@@ -3,7 +3,7 @@ use Rattle.std.proofs.lemmas.Bool.{false≢true}
 use Rattle.hib_journal.specs.Kept.{past}
 use Rattle.hib_engines.proofs.Outcomes.{err_all}
 use Rattle.hib_parts.proofs.Steps.{fits_kept, entry_here, less_than}
-use Rattle.hib_parts.proofs.Stores.{start_calm, start_on, store_on, store_entered, store_left}
+use Rattle.hib_parts.proofs.Stores.{may_change, start_calm, start_keeps, start_on, store_on, store_entered, store_left}
 use Rattle.hib_parts.proofs.store.serve_store.Goals as goal
 
 pub enter_answer-requires-clause-due : goal.enter_answer-requires-clause-due
@@ -52,3 +52,23 @@ returns-in-Some-clause-entered g c =
     (entry_here w v w.list v.list c.enter_both.new.worker.list a c.args.now r c.prepared.ensures.kept c.prepared.ensures.kept.list c.in_ok-enter_both.ensures.mine)
     (less_than c.enter_both.new.worker.left v.left w.left c.in_ok-enter_both.ensures.less c.prepared.ensures.left)
     (omega arith) (λ p. absurd (start_calm script told a r c.in-Some.ensures.given p))
+
+pub returns-clause-may : goal.returns-clause-may
+returns-clause-may g c =
+    let w = c.args.worker.now in
+    let v = c.prepared.new.worker in
+    let a = c.in_ok-acts.acts.0 in
+    let r = c.in_ok-reply.reply in
+    may_change g.N.Name.script g.N.Name.from.tables (past c.args.list.now) (past c.enter_answer.new.list) c.number-number.result c.args.now c.args.store.now w v a r c.may_change_rows-changed.result c.prepared.ensures.kept c.number-number.ensures c.requires.stands
+    (entry_here w v (past c.args.list.now) (past c.prepared.new.list) (past c.enter_answer.new.list) a c.args.now r c.prepared.ensures.kept c.prepared.ensures.list c.in_ok-enter_answer.ensures.list)
+    c.may_change_rows-changed.ensures
+
+pub returns-in-Some-clause-may : goal.returns-in-Some-clause-may
+returns-in-Some-clause-may g c =
+    let w = c.args.worker.now in
+    let v = c.prepared.new.worker in
+    let a = c.in_ok-acts.acts.0 in
+    let r = c.in-Some.replies.0 in
+    start_keeps g.N.Name.script g.N.Name.from.tables (past c.args.list.now) (past c.enter_both.new.list) w.number c.args.now a r
+    (entry_here w v (past c.args.list.now) (past c.prepared.new.list) (past c.enter_both.new.list) a c.args.now r c.prepared.ensures.kept c.prepared.ensures.list c.in_ok-enter_both.ensures.list)
+    c.in-Some.ensures.given
