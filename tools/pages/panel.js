@@ -136,11 +136,11 @@ function drawEntry(run, at) {
   return parts.join('') + drawMeanings(run, entry);
 }
 
-const TOLD_NOTE = 'as <code>hib_tools states</code> tells it, by the definitions of the journal, which is proved.';
+const TOLD_NOTE = 'as <code>hib tools states</code> tells it, by the definitions of the journal, which is proved.';
 const UNPROVED_NOTE = 'as this page works it out: an unproved account.';
 
 // The same for the whole page.
-const TOLD_ACCOUNT = 'Which rows are stale, why an entry was refused, and since when, is drawn from the states that <code>hib_tools states</code> ' +
+const TOLD_ACCOUNT = 'Which rows are stale, why an entry was refused, and since when, is drawn from the states that <code>hib tools states</code> ' +
   'tells by the definitions of the journal, which is proved. What a query gives is worked out in this page, and the words are its own.';
 const UNPROVED_ACCOUNT = "This is an unproved account: how a read came about is worked out in this page; tests compare its rules with the program. " +
   '<code>hib audit</code> says by proved rules whether a journal is legal.';
@@ -177,7 +177,7 @@ function drawWarnings(run) {
   const out = [], warn = text => out.push(`<p class="note bad">${text}</p>`), open = run.transactions.filter(({ to }) => to === null);
   if (run.verdict && run.entries[run.verdict.at]) {
     warn(`The journal isn't legal: the first entry that isn't is at tick ${linkTo(run, run.verdict.at)}, by its ${run.verdict.rule}. ` +
-      'So says <code>hib_tools states</code>, by proved rules.');
+      'So says <code>hib tools states</code>, by proved rules.');
   }
   if (run.journal.cut) warn(`The journal is cut short: ${sentence(run, run.journal.cut)}.`);
   if (run.odd.length) {

@@ -1,5 +1,5 @@
 'use strict';
-// The states of a run, as `hib_tools states` tells them: by the journal's definitions, which is proved. A state goes on by what is told of
+// The states of a run, as `hib tools states` tells them: by the journal's definitions, which is proved. A state goes on by what is told of
 // an entry, and by no rule of this page. What isn't told is read off the entry that tells it: who made it so, and by which act. docs/DATA.md
 // says what a line has.
 

@@ -29,6 +29,16 @@ function print_help(  i) {
   print_others()
 }
 
+# What is wrong, a line for each line of the script: FILE:LINE:COLUMN: WORD: what. A line of which no more is known has the text `told`.
+function print_brief(  n, i) {
+  i = note_of(line, said)
+  print file ":" line ":" (i ? note_at[line, i] : 1) ": " said ": " (i ? note_text[line, i] : told)
+  for (n = 1; n <= NR; n++) {
+    i = first_note(n)
+    if (n != line && i) print file ":" n ":" note_at[n, i] ": " note_kind[n, i] ": " note_text[n, i]
+  }
+}
+
 function print_forms(  list, k, size) {
   size = split(forms_told[line], list, "\n")
   for (k = 1; k <= size; k++) print "form: " list[k]

@@ -2,7 +2,7 @@
 #
 # Variables: line and said are what the program said. It prints first `at COLUMN LENGTH`, the part of the refused line that the caret
 # stands below (0 where none does), and then the lines of help. With the variable `only` it prints the first bad line alone, its
-# number and word, as the program would say it; or the forms of lines, if that is `forms`.
+# number and word, as the program would say it; or the forms of lines, if that is `forms`; or a line for each bad line, if it is `brief`.
 
 # Notes that something is wrong with a line: the word, the part, and a text.
 function bad(n, which, at, size, text) {
@@ -34,7 +34,8 @@ function explain(  n) {
   place = "start"
   for (n = 1; n <= NR; n++) if (is_said(n)) read_line(n)
   finish()
-  if (only) print_first()
+  if (only == "brief") print_brief()
+  else if (only) print_first()
   else print_help()
 }
 

@@ -21,6 +21,4 @@ pub struct Held {
     pub base: Option<Row>,
     /// The row as the session sees it.
     pub row: Row,
-    /// Which of the session's removals marked it, counted from 1; 0 if none did.
-    pub removed: u32,
 }

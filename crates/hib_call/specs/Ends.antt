@@ -35,10 +35,9 @@ abbrev pub Comes : {I R : Type 0} → Command I R → I → Shared → Shared �
 Comes c input old new (Outcome.Over run) = c.leaves input old new run
 Comes c input old new (Outcome.Stopped status run) = c.stops input old new status run × IsEarly status × (status ≡ Status.StoreFault → Rose old.faults new.faults)
 
--- what was written: the text at Done and Illegal, a front of it if the sink failed or memory ran out, else nothing
-abbrev pub IsWritten : Status → List ℕ → Option (List ℕ) → Option (List ℕ) → Type 0
-IsWritten Status.Done text old new = Appends old new text
-IsWritten (Status.Illegal n k) text old new = Appends old new text
-IsWritten Status.WriteFault text old new = TakesFront old new text
-IsWritten Status.NoMemory text old new = TakesFront old new text
-IsWritten _ text old new = new ≡ old
+-- a text was told: it was written whole at Done, and a front of it if the sink failed or memory ran out. It ends in no other way
+abbrev pub IsTextTold : Status → List ℕ → Option (List ℕ) → Option (List ℕ) → Type 0
+IsTextTold Status.Done text old new = Appends old new text
+IsTextTold Status.WriteFault text old new = TakesFront old new text
+IsTextTold Status.NoMemory text old new = TakesFront old new text
+IsTextTold _ text old new = ⊥

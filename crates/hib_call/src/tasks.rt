@@ -3,7 +3,7 @@ ghost use Rattle.std.specs.Prelude.{◌≡◌, ◌⊎◌, ◌≤◌, ℕ, length
 ghost use Rattle.hib_outside.specs.Causes.{Rose};
 ghost use Rattle.hib_call.specs.Command.{Command};
 ghost use Rattle.hib_call.specs.Limits.{max_journal};
-ghost use Rattle.hib_call.specs.Ends.{IsAfterRun, IsWhere, IsWritten};
+ghost use Rattle.hib_call.specs.Ends.{IsAfterRun, IsTextTold, IsWhere};
 
 use crate::lent::Lent;
 use crate::status::Status;
@@ -75,7 +75,7 @@ pub trait Task {
 
 /// Writes a text whole, and answers how a call ends whose last act this is.
 pub fn tell_text<W: Sink>(text: &[u8], out: &mut W) -> Status
-    ensures text { IsWritten result text.now (W.taken out.old) (W.taken out.new) }
+    ensures text { IsTextTold result text.now (W.taken out.old) (W.taken out.new) }
     ensures write { result ≡ Status.WriteFault → Rose (W.faults out.old) (W.faults out.new) }
     ensures after { IsAfterRun result }
     ensures ends { (result ≡ Status.Done) ⊎ (result ≡ Status.WriteFault) }

@@ -1,4 +1,5 @@
-// What comes of a row of the checks, by the top call, and what of it isn't as the row says (a fault).
+// What comes of a row of the checks, by the top call, and the first thing that isn't as the row says (a fault).
+use crate::faults::{Came, Fault, fault_of};
 use crate::row::Row;
 use crate::words::words_of;
 use crate::world::{keeper_of, sink_with, source_with};
@@ -9,21 +10,8 @@ use std::alloc::{AllocError, Global};
 use std::sync::Wait;
 use std::thread::Threads;
 
-/// What the top call left.
-#[derive(Drop)]
-struct Came {
-    status: u32,
-    says: Vec<u8>,
-    output: Vec<u8>,
-    keeps: usize,
-    asks: u64,
-}
-
 /// The bytes that a sink takes if a row says nothing of its room.
-const ROOM: u32 = 65_536;
-
-/// The bytes that a journal may have as JSON lines.
-const LINES_ROOM: u32 = 4_194_304;
+const ROOM: u32 = 4_194_304;
 
 /// The line that the program prints on standard error, with its end; nothing if all is done.
 fn said(alloc: Global, status: &Status) -> Result<Vec<u8>, AllocError> {
@@ -87,14 +75,13 @@ fn play_line<R: Threads + Wait + Sync>(
     alloc: Global,
     row: &Row,
     line: &str,
-    input: &[u8],
 ) -> Result<Came, AllocError> {
     let words = row.words(alloc, line)?;
     let room = row.number("room").unwrap_or(ROOM);
-    play(rt, alloc, row, room, words.as_slice(), input)
+    play(rt, alloc, row, room, words.as_slice(), row.input.as_slice())
 }
 
-/// Runs the top call with the words of this text, over a sink with room for a journal as lines.
+/// Runs the top call with the words of this text, over a sink with room for all.
 fn play_words<R: Threads + Wait + Sync>(
     rt: &R,
     alloc: Global,
@@ -103,70 +90,7 @@ fn play_words<R: Threads + Wait + Sync>(
     input: &[u8],
 ) -> Result<Came, AllocError> {
     let words = words_of(alloc, text)?;
-    play(rt, alloc, row, LINES_ROOM, words.as_slice(), input)
-}
-
-/// How many bytes two texts have in common at their heads.
-fn common(a: &[u8], b: &[u8]) -> usize {
-    a.iter().zip(b.iter()).take_while(|(x, y)| *x == *y).count()
-}
-
-/// Whether a line with its end is this text; no line is the empty text.
-fn is_line(line: &[u8], text: &str) -> bool {
-    match line {
-        [] => text.is_empty(),
-        [front @ .., last] => *last == b'\n' && front == text.as_bytes(),
-    }
-}
-
-/// Whether a front of an input ends with a line at which the script may end.
-fn may_end(ends: &[u32], front: &[u8], next: Option<&u8>) -> bool {
-    let mut line: u32 = 0;
-    for byte in front {
-        if *byte == b'\n' {
-            line = line.saturating_add(1);
-        }
-    }
-    match front {
-        [] => return false,
-        [.., b'\n'] => {}
-        _ if next.is_none() || next == Some(&b'\n') => line = line.saturating_add(1),
-        _ => return false,
-    }
-    ends.contains(&line)
-}
-
-/// Whether a front of the input is played if the script may end with it, and else is refused with nothing written.
-fn ends_right<R: Threads + Wait + Sync>(
-    rt: &R,
-    alloc: Global,
-    row: &Row,
-    front: &[u8],
-    may_end: bool,
-) -> Result<bool, AllocError> {
-    let came = play_line(rt, alloc, row, "words", front)?;
-    if may_end {
-        return Ok(came.status == 0);
-    }
-    Ok(came.status == 3 && came.output.is_empty())
-}
-
-/// The bytes of the first front of the input that came to another end than it must, if there is one.
-fn wrong_front<R: Threads + Wait + Sync>(
-    rt: &R,
-    alloc: Global,
-    row: &Row,
-    input: &[u8],
-) -> Result<Option<usize>, AllocError> {
-    let ends = row.numbers(alloc, "may-end")?;
-    for size in 0..input.len() {
-        let front = &input[..size];
-        let may_end = may_end(ends.as_slice(), front, input.get(size));
-        if !ends_right(rt, alloc, row, front, may_end)? {
-            return Ok(Some(size));
-        }
-    }
-    Ok(None)
+    play(rt, alloc, row, ROOM, words.as_slice(), input)
 }
 
 /// Adds the line `journal` and these lines to a script.
@@ -183,8 +107,8 @@ fn is_legal<R: Threads + Wait + Sync>(
     rt: &R,
     alloc: Global,
     row: &Row,
-    input: &[u8],
 ) -> Result<bool, AllocError> {
+    let input = row.input.as_slice();
     let lines = play_words(rt, alloc, row, &["play", "--journal"], input)?;
     let mut audited = input.to_vec(alloc)?;
     add_journal(&mut audited, lines.output.as_slice())?;
@@ -195,112 +119,35 @@ fn is_legal<R: Threads + Wait + Sync>(
 /// Whether a row is a run whose journal is to be audited: by its schedule, to its end, from the script's rows.
 fn has_journal(row: &Row) -> bool {
     let is_done = row.number("status").unwrap_or(0) == 0;
-    row.text("words") == "play" && is_done && !row.has("kept")
-}
-
-/// What is wrong with the output, if anything.
-fn output_fault(alloc: Global, row: &Row, output: &[u8]) -> Result<Option<String>, AllocError> {
-    if row.has("has") {
-        let text = String::from_utf8_lossy(alloc, output)?;
-        return match row.missing(text.as_str()) {
-            Some(line) => Ok(Some(format!(in alloc; "its output has no line {line} there")?)),
-            None => Ok(None),
-        };
-    }
-    let wanted = row.output(alloc)?;
-    if output == wanted.as_slice() {
-        return Ok(None);
-    }
-    let at = common(output, wanted.as_slice());
-    Ok(Some(format!(in alloc; "its output differs at byte {at}")?))
-}
-
-/// What is wrong with the counts of the keeper, if anything.
-fn keeper_fault(alloc: Global, row: &Row, came: &Came) -> Result<Option<String>, AllocError> {
-    let keeps = row.number("keeps").unwrap_or(0);
-    if came.keeps != keeps as usize {
-        let has = came.keeps;
-        return Ok(Some(format!(in alloc; "the keeper has {has} rows, and not {keeps}")?));
-    }
-    match row.number("asks") {
-        Some(asks) if came.asks != u64::from(asks) => {
-            let was = came.asks;
-            Ok(Some(format!(in alloc; "the keeper was asked {was} times, and not {asks}")?))
-        }
-        _ => Ok(None),
-    }
-}
-
-/// What is wrong with the status and what is said of it, if anything.
-fn status_fault(alloc: Global, row: &Row, came: &Came) -> Result<Option<String>, AllocError> {
-    let status = row.number("status").unwrap_or(0);
-    if came.status != status {
-        let was = came.status;
-        return Ok(Some(format!(in alloc; "its status is {was}, and not {status}")?));
-    }
-    let says = row.text("says");
-    if is_line(came.says.as_slice(), says) {
-        return Ok(None);
-    }
-    let said = String::from_utf8_lossy(alloc, came.says.as_slice())?;
-    Ok(Some(format!(in alloc; "it says {}, and not {says}", said.trim())?))
-}
-
-/// What is wrong with what came of a row, if anything.
-fn fault_of(alloc: Global, row: &Row, came: &Came) -> Result<Option<String>, AllocError> {
-    if let Some(fault) = status_fault(alloc, row, came)? {
-        return Ok(Some(fault));
-    }
-    if let Some(fault) = output_fault(alloc, row, came.output.as_slice())? {
-        return Ok(Some(fault));
-    }
-    keeper_fault(alloc, row, came)
+    row.text("words") == Some("play") && is_done && row.text("kept").is_none()
 }
 
 /// What is wrong with what comes of the words of this line of a row, if anything.
-fn fault_of_line<R: Threads + Wait + Sync>(
+fn fault_of_line<'a, R: Threads + Wait + Sync>(
     rt: &R,
     alloc: Global,
-    row: &Row,
+    row: &'a Row,
     line: &str,
-    input: &[u8],
-) -> Result<Option<String>, AllocError> {
-    let came = play_line(rt, alloc, row, line, input)?;
-    fault_of(alloc, row, &came)
-}
-
-/// What is wrong with the fronts of the input or with the journal of a row, if anything.
-fn deeper_fault<R: Threads + Wait + Sync>(
-    rt: &R,
-    alloc: Global,
-    row: &Row,
-    input: &[u8],
-) -> Result<Option<String>, AllocError> {
-    if row.has("may-end")
-        && let Some(size) = wrong_front(rt, alloc, row, input)?
-    {
-        return Ok(Some(format!(in alloc; "its first {size} bytes end otherwise")?));
-    }
-    if has_journal(row) && !is_legal(rt, alloc, row, input)? {
-        return Ok(Some(String::from_str(alloc, "its journal isn't legal by the audit")?));
-    }
-    Ok(None)
+) -> Result<Option<Fault<'a>>, AllocError> {
+    let came = play_line(rt, alloc, row, line)?;
+    Ok(fault_of(row, &came))
 }
 
 /// Makes the call of a row of the checks, and gives the first thing that isn't as the row says. None if all is.
-pub fn first_fault<R: Threads + Wait + Sync>(
+pub fn first_fault<'a, R: Threads + Wait + Sync>(
     rt: &R,
     alloc: Global,
-    row: &Row,
-) -> Result<Option<String>, AllocError> {
-    let input = row.input(alloc)?;
-    if row.has("also")
-        && let Some(fault) = fault_of_line(rt, alloc, row, "also", input.as_slice())?
-    {
-        return Ok(Some(fault));
+    row: &'a Row,
+) -> Result<Option<Fault<'a>>, AllocError> {
+    if row.text("also").is_some() {
+        let fault = fault_of_line(rt, alloc, row, "also")?;
+        if fault.is_some() {
+            return Ok(fault);
+        }
     }
-    if let Some(fault) = fault_of_line(rt, alloc, row, "words", input.as_slice())? {
-        return Ok(Some(fault));
+    let fault = fault_of_line(rt, alloc, row, "words")?;
+    if fault.is_some() || !has_journal(row) || is_legal(rt, alloc, row)? {
+        return Ok(fault);
     }
-    deeper_fault(rt, alloc, row, input.as_slice())
+    Ok(Some(Fault::Journal))
 }

@@ -1,6 +1,7 @@
-//! Runs rows through the top call: each is an input of the program, with what must come of it. The rows come on
-//! standard input, in the form that the head of the file `stdin` describes, so that a row more is no code more.
-//! A line is printed for each row, and at the end one for each thing that only direct calls can show.
+//! Runs rows through the top call, over streams and keepers that the built program can't be given: each is an input of
+//! the program, with what must come of it. The rows come on standard input, in the form that the head of the file `stdin`
+//! describes, so that a row more is no code more. A line is printed for each row, and at the end one for each thing that
+//! only direct calls can show.
 #![tactic(auto)]
 
 ghost use Rattle.std.specs.Prelude.{◌≡◌, true};
@@ -9,6 +10,7 @@ ghost use Rattle.hib_base.specs.Valid.{is_valid};
 mod beside;
 mod check;
 mod evicting;
+mod faults;
 mod gate;
 mod listening;
 mod merging;
@@ -18,6 +20,7 @@ mod words;
 mod working;
 mod world;
 
+use faults::Fault;
 use hib_base::Script;
 use row::Row;
 use std::alloc::{AllocError, Global};
@@ -37,10 +40,23 @@ fn finish<R: Threads + Wait + Sync>(
     alloc: Global,
     row: &Row,
 ) -> io::Result<()> {
-    let name = row.name.as_str();
-    match check::first_fault(rt, alloc, row)? {
+    let fault = check::first_fault(rt, alloc, row)?;
+    tell_row(out, row.name.as_str(), fault)
+}
+
+/// Prints the line of a row.
+fn tell_row(out: &impl Print, name: &str, fault: Option<Fault<'_>>) -> io::Result<()> {
+    match fault {
         None => println!(out; "row {name}: ok"),
-        Some(fault) => println!(out; "row {name}: {}", fault.as_str()),
+        Some(Fault::Status(was)) => println!(out; "row {name}: its status is {was}"),
+        Some(Fault::Says) => println!(out; "row {name}: it says something else"),
+        Some(Fault::Output(at)) => println!(out; "row {name}: its output differs at byte {at}"),
+        Some(Fault::NoLine(line)) => println!(out;
+            "row {name}: its output has no line {line} there"
+        ),
+        Some(Fault::Keeps(has)) => println!(out; "row {name}: the keeper has {has} rows"),
+        Some(Fault::Asks(was)) => println!(out; "row {name}: the keeper was asked {was} times"),
+        Some(Fault::Journal) => println!(out; "row {name}: its journal isn't legal by the audit"),
     }
 }
 

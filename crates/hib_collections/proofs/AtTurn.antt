@@ -32,8 +32,8 @@ pub record IsPrepared (script : Script) (g mid : Gathered) (u v : Gatherer) : Ty
 pub prepared : {told script : Script} {g mid : Gathered} {u v : Gatherer} → told ≡ script → mid ≡ g → IsKept told u v → IsPrepared script g mid u v
 prepared {told} {script} {g} {mid} {u} {v} q same kept = record { same = same; kept = subst (λ (z : Script). IsKept z u v) q kept }
 
-pub left_prepared : {script : Script} {g mid : Gathered} {x : EnginesState} {rs : List Region} {u v : Gatherer} → IsPrepared script g mid u v → Leaves script g mid x x rs rs u v
-left_prepared {script} {g} {mid} {x} {rs} {u} {v} p = leaves_same script g mid x rs rs u v p.same refl p.kept
+pub left_prepared : {script : Script} {defs : List Def} {g mid : Gathered} {x : EnginesState} {rs : List Region} {u v : Gatherer} → IsPrepared script g mid u v → Leaves script defs g mid x x rs rs u v
+left_prepared {script} {defs} {g} {mid} {x} {rs} {u} {v} p = leaves_same script defs g mid x rs rs u v p.same refl p.kept
 
 pub run_prepared : {script : Script} {defs : List Def} {from : Origin} {g mid : Gathered} {x : EnginesState} {rs : List Region} {u v : Gatherer} → IsPrepared script g mid u v → IsRun script defs from g x rs →
     IsRun script defs from mid x rs
@@ -61,6 +61,6 @@ pub here : {script : Script} {g : Gathered} {ys : List Gatherer} {i s : ℕ} {y 
 here {script} {g} {ys} {i} {s} {y} all e l v = at_place script g ys i s y all e l v
 
 pub came : {E : Type 0} {script : Script} {defs : List Def} {from : Origin} {s : ℕ} {r : Result Turned E} {g new : Gathered} {x y : EnginesState} {rs qs : List Region} {ys : List Gatherer} {u : Gatherer} (v : Gatherer) → IsRun script defs from g x rs →
-    AreGatherers script g ys → slice_get ys s ≡ Some u → IfOk r (Turns script defs from (number_of u.session) g new x y rs qs u v) → OnErr r (Leaves script g new x y rs qs u v) →
+    AreGatherers script g ys → slice_get ys s ≡ Some u → IfOk r (Turns script defs from (number_of u.session) g new x y rs qs u v) → OnErr r (Leaves script defs g new x y rs qs u v) →
     HasTurned script defs from s r g new x y qs (Rattle.std.specs.Prelude.slice_set ys s v)
 came {E} {script} {defs} {from} {s} {r} {g} {new} {x} {y} {rs} {qs} {ys} {u} v run all at ok err = turned script defs from s r g new x y rs qs ys u v run all at ok err

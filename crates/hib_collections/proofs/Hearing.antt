@@ -14,8 +14,8 @@ use Rattle.hib_collections_law.specs.declared.entries.GatherEntry.{GatherEntry}
 use Rattle.hib_collections_law.specs.Types.{Gathered}
 use Rattle.hib_collections_law.specs.Gathered.{plain}
 use Rattle.hib_collections.specs.Gather.{AreHeard, HasStepped, Hears, IsOver, heard_in}
-use Rattle.hib_collections.specs.Played.{GoesOn}
-use Rattle.hib_collections.specs.Run.{Does, HasMoved, HasRested, IsAsked, IsAskedOnceMore, is_done, says_fault, told_in}
+use Rattle.hib_playing.specs.Playing.{GoesOn}
+use Rattle.hib_collections.specs.Run.{Does, HasMoved, HasRested, IsAsked, IsAskedAt, IsAskedOnceMore, is_done, says_fault, told_in}
 use Rattle.hib_collections.specs.declared.turns.Turned.{Turned}
 
 longer : (h : Journal) (e : Entry) → h ≡ e ∷ h → ⊥
@@ -96,6 +96,9 @@ module _ (script : Script) (defs : List Def) (s : ℕ) (g new : Gathered) (x y :
 
   pub faulty : (t : Turned) → HasMoved script defs s g new x y t → (e : GatherEntry) → new ≡ e ∷ g → says_fault e ≡ true → Rose x.store.faults y.store.faults
   faulty t m e q f = m.fault (subst (λ (z : GatherEntry). says_fault z ≡ true) (sym (same_entry m.entry e g g (sym m.grown ∙ q))) f)
+
+  pub asks_once : (t : Turned) → HasMoved script defs s g new x y t → (e : GatherEntry) → new ≡ e ∷ g → IsAskedAt script e g x y
+  asks_once t m e q = subst (λ (z : GatherEntry). IsAskedAt script z g x y) (same_entry m.entry e g g (sym m.grown ∙ q)) m.asked
 
   pub hears_turn : (t : Turned) (whole : Bool) (told now : List Told) → HasMoved script defs s g new x y t →
       ((e : GatherEntry) (h : Gathered) → new ≡ e ∷ h → AreHeard (told_in t e) whole told now) → Hears (plain script g) (plain script new) whole told now

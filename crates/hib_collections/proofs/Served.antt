@@ -2,6 +2,7 @@
 use Rattle.std.specs.Prelude.{is_some}
 use Rattle.std.proofs.Common.{◌≡◌, ℕ, ◌+◌, ◌<◌, ◌≤◌, ◌^◌, Bool, true, false, cond, List, ◌∷◌, length, Some, None, Option, refl, ap, sym, ◌∙◌, subst, arith}
 use Rattle.std.proofs.lemmas.Bool.{true≢false, false≢true}
+use Rattle.hib_base.specs.Tables.{Tables}
 use Rattle.hib_journal.specs.Types.{Cell, Row, Script, Part, Act, Reply, Entry}
 use Rattle.hib_journal.specs.Sessions.{Journal, own, same_part, was_killed}
 use Rattle.hib_journal.specs.Next.{next}
@@ -12,7 +13,7 @@ use Rattle.hib_journal.proofs.Open.{killed_same}
 use Rattle.hib_law.proofs.Basics.{none_some, some_same}
 use Rattle.hib_session.specs.Session.{Follows, IsTaken, number_of, own_reply}
 use Rattle.hib_engines.specs.declared.region.Region.{Region}
-use Rattle.hib_engines.specs.Engines.{EnginesState, AreStanding, IsReady, IsTold}
+use Rattle.hib_engines.specs.Engines.{EnginesState, AreStanding, IsReady, IsRefused, IsTold}
 use Rattle.hib_engines.specs.Origin.{Origin}
 use Rattle.hib_engines.specs.Stays.{ListsLeave}
 use Rattle.hib_engines.proofs.Bridge.{own_self, self_by}
@@ -85,6 +86,13 @@ module _ (script : Script) (defs : List Def) (from : Origin) (g : Gathered) (x :
     late = omega (arith, (are_plain script defs from.tables g run.gathered).below (λ d. same_part (part_of a (number_of u.session)) d.part), e);
     due = t.due;
   }
+
+  -- what they leave of such an act if they refuse it, by the script that was handed in
+  pub refused_at : (told : Script) (u : Gatherer) (a : Act) (now : ℕ) (y : EnginesState) → told ≡ script →
+      ((o : Option Tables) (h : Journal) → IsReady told o h (number_of u.session) now a x → IsRefused h (number_of u.session) a x y) →
+      IsRun script defs from g x rs → IsTurn script g u a → now ≡ length g + 1 → IsRefused P (number_of u.session) a x y
+  refused_at told u a now y q f run t e =
+      subst (λ (z : Script). (o : Option Tables) (h : Journal) → IsReady z o h (number_of u.session) now a x → IsRefused h (number_of u.session) a x y) q f from.tables P (ready_at u a now run t e)
 
   module _ (s : ℕ) (y : EnginesState) (u v : Gatherer) where
     -- an act of the plan was answered, and its session and the notes have taken it

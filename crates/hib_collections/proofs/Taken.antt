@@ -23,7 +23,7 @@ use Rattle.hib_collections.specs.declared.turns.Turned.{Turned}
 use Rattle.hib_collections.specs.Before.{IsKnown, due_by}
 use Rattle.hib_collections.specs.Gatherers.{IsGatherer}
 use Rattle.hib_collections.specs.Notes.{AreNoted}
-use Rattle.hib_collections.specs.Run.{IsKept, IsTurn, Leaves, Rests, Serves, Turns}
+use Rattle.hib_collections.specs.Run.{IsKept, IsStepRefused, IsTurn, Leaves, Rests, Serves, Turns}
 use Rattle.hib_collections.proofs.Known.{known_due}
 use Rattle.hib_collections.proofs.Left.{kept_then, leaves_same}
 
@@ -100,10 +100,15 @@ module _ (script : Script) (defs : List Def) (from : Origin) (g mid new : Gather
       to_turns t (subst (λ (h : Gathered). Serves script defs from (number_of u.session) h new x y qs w t) same (subst (λ n. Serves script defs from n mid new x y qs w t) kept.number z))
   turns_of (Err e) z = tt
 
-  pub leaves_then : {E : Type 0} (r : Result Turned E) → OnErr r (Leaves script mid new x y rs qs v w) → OnErr r (Leaves script g new x y rs qs u w)
+  pub leaves_then : {E : Type 0} (r : Result Turned E) → OnErr r (Leaves script defs mid new x y rs qs v w) → OnErr r (Leaves script defs g new x y rs qs u w)
   leaves_then (Ok t) z = tt
-  leaves_then (Err e) z = record { same = z.same ∙ same; engines = z.engines; regions = z.regions; kept = kept_then script u v w kept z.kept }
+  leaves_then (Err e) z = record {
+    same = z.same ∙ same;
+    engines = subst (λ (h : Gathered). IsStepRefused script defs h (number_of u.session) x y) same (subst (λ n. IsStepRefused script defs mid n x y) kept.number z.engines);
+    regions = z.regions;
+    kept = kept_then script u v w kept z.kept;
+  }
 
 pub rests_of : (script : Script) (defs : List Def) (g new : Gathered) (x : EnginesState) (rs : List Region) (u v : Gatherer) → new ≡ g → IsKept script u v →
     Gathered.due script defs (number_of u.session) g ≡ None → Rests script defs (number_of u.session) g new x x rs rs u v
-rests_of script defs g new x rs u v e k d = record { over = d; still = refl; leaves = leaves_same script g new x rs rs u v e refl k }
+rests_of script defs g new x rs u v e k d = record { over = d; still = refl; leaves = leaves_same script defs g new x rs rs u v e refl k }

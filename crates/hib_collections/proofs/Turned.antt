@@ -14,7 +14,7 @@ use Rattle.hib_engines.specs.Engines.{EnginesState, IsStill}
 use Rattle.hib_engines.specs.Origin.{Origin}
 use Rattle.hib_engines.proofs.Bridge.{self_by}
 use Rattle.hib_engines.proofs.Rose.{rose_on}
-use Rattle.hib_engines.proofs.Still.{still_standing}
+use Rattle.hib_engines.proofs.Still.{still_same, still_standing}
 use Rattle.hib_collections_law.specs.declared.entries.Def.{Def}
 use Rattle.hib_collections_law.specs.declared.entries.GatherEntry.{GatherEntry}
 use Rattle.hib_collections_law.specs.Types.{Gathered}
@@ -25,8 +25,9 @@ use Rattle.hib_collections.specs.declared.turns.Turned.{Turned}
 use Rattle.hib_collections.specs.Collected.{AreCollected}
 use Rattle.hib_collections.specs.Gatherers.{IsGatherer, AreGatherers}
 use Rattle.hib_collections.specs.Notes.{AreNoted}
-use Rattle.hib_collections.specs.Run.{Does, HasMoved, IsKept, IsRun, Leaves, Serves, Turns}
+use Rattle.hib_collections.specs.Run.{Does, HasMoved, IsKept, IsRun, IsStepRefused, Leaves, Serves, Turns}
 use Rattle.hib_collections.proofs.Entries.{own_other, mine_other}
+use Rattle.hib_collections.proofs.Left.{still_of}
 
 -- an entry of one session is of no other
 pub by_other : (s t : ℕ) (x : GatherEntry) → is_by s x ≡ true → (s == t) ≡ false → is_by t x ≡ false
@@ -117,16 +118,18 @@ pub record HasTurned {E : Type 0} (script : Script) (defs : List Def) (from : Or
   pub does : IfOk r (Does script defs s g new x y)
   pub same : OnErr r (new ≡ g)
   pub err : OnErr r (IsStill x y)
+  pub counts : OnErr r (IsStepRefused script defs g s x y)
 
 pub turned : {E : Type 0} (script : Script) (defs : List Def) (from : Origin) (s : ℕ) (r : Result Turned E) (g new : Gathered) (x y : EnginesState) (rs qs : List Region) (ys : List Gatherer) (u v : Gatherer) →
     IsRun script defs from g x rs → AreGatherers script g ys → slice_get ys s ≡ Some u → IfOk r (Turns script defs from (number_of u.session) g new x y rs qs u v) →
-    OnErr r (Leaves script g new x y rs qs u v) → HasTurned script defs from s r g new x y qs (slice_set ys s v)
+    OnErr r (Leaves script defs g new x y rs qs u v) → HasTurned script defs from s r g new x y qs (slice_set ys s v)
 turned {E} script defs from s (Err e) g new x y rs qs ys u v run all at ok err = record {
-  run = kept_run script defs from g new x y rs qs err.same err.engines err.regions run;
+  run = kept_run script defs from g new x y rs qs err.same (still_of script defs g (number_of u.session) x y err.engines) err.regions run;
   sessions = subst (λ (h : Gathered). AreGatherers script h (slice_set ys s v)) (sym err.same) (gatherers_kept script ys s u v at g all err.kept);
   does = tt;
   same = err.same;
-  err = err.engines;
+  err = still_of script defs g (number_of u.session) x y err.engines;
+  counts = subst (λ n. IsStepRefused script defs g n x y) (all.each s u at).number err.engines;
 }
 turned {E} script defs from s (Ok t) g new x y rs qs ys u v run all at ok err = by_turn t (subst (λ n. Turns script defs from n g new x y rs qs u v t) (all.each s u at).number ok)
   where
@@ -138,6 +141,7 @@ turned {E} script defs from s (Ok t) g new x y rs qs ys u v run all at ok err = 
       does = d;
       same = tt;
       err = tt;
+      counts = tt;
     }
 
     moved : (t : Turned) → Serves script defs from s g new x y qs v t → HasMoved script defs s g new x y t
@@ -145,11 +149,12 @@ turned {E} script defs from s (Ok t) g new x y rs qs ys u v run all at ok err = 
 
     by_turn : (t : Turned) → Turns script defs from s g new x y rs qs u v t → HasTurned {E = E} script defs from s (Ok t) g new x y qs (slice_set ys s v)
     by_turn Turned.Done w = record {
-      run = kept_run script defs from g new x y rs qs w.leaves.same w.leaves.engines w.leaves.regions run;
+      run = kept_run script defs from g new x y rs qs w.leaves.same (still_same x y w.still) w.leaves.regions run;
       sessions = subst (λ (h : Gathered). AreGatherers script h (slice_set ys s v)) (sym w.leaves.same) (gatherers_kept script ys s u v at g all w.leaves.kept);
       does = record { same = w.leaves.same; over = subst (λ (h : Gathered). Gathered.due script defs s h ≡ None) (sym w.leaves.same) w.over; still = w.still };
       same = tt;
       err = tt;
+      counts = tt;
     }
     by_turn Turned.Did w = served Turned.Did w (moved Turned.Did w) (moved Turned.Did w)
     by_turn (Turned.Hit e) w = served (Turned.Hit e) w (moved (Turned.Hit e) w) (moved (Turned.Hit e) w)

@@ -10,7 +10,8 @@ use Rattle.hib_collections_law.specs.declared.entries.GatherEntry.{GatherEntry}
 use Rattle.hib_collections_law.specs.Types.{Gathered}
 use Rattle.hib_collections_law.specs.Gathered.{is_by, plain}
 use Rattle.hib_collections.specs.Kept.{Kept, past}
-use Rattle.hib_collections.specs.Played.{has_next, GoesOn}
+use Rattle.hib_playing.specs.Playing.{GoesOn}
+use Rattle.hib_collections.specs.Played.{has_next}
 use Rattle.hib_collections.specs.Run.{IsAskedOnceMore}
 
 -- beside the steps what its listeners tell, and whether one had no memory for the newest entry that they hear of

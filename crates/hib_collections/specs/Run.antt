@@ -15,13 +15,13 @@ use Rattle.hib_engines.specs.Origin.{Origin}
 use Rattle.hib_engines.specs.Counts.{RoseBy, RoseWithin}
 use Rattle.hib_engines.specs.Built.{IsBuilt}
 use Rattle.hib_engines.specs.Due.{IsDue}
-use Rattle.hib_engines.specs.Engines.{EnginesState, AreStanding, IsStill}
+use Rattle.hib_engines.specs.Engines.{EnginesState, AreStanding, IsRefused}
 use Rattle.hib_collections_law.specs.declared.entries.Def.{Def}
 use Rattle.hib_collections_law.specs.declared.entries.GatherEntry.{GatherEntry}
 use Rattle.hib_collections_law.specs.declared.entries.MemberAct.{MemberAct}
 use Rattle.hib_collections_law.specs.Types.{Gathered, max_collections}
 use Rattle.hib_collections_law.specs.Law.{is_versioned}
-use Rattle.hib_collections_law.specs.Gathered.{IsGathered, due, due_in, is_by, plain, region_act, region_script, regions}
+use Rattle.hib_collections_law.specs.Gathered.{Due, IsGathered, due, due_in, is_by, plain, region_act, region_script, regions}
 use Rattle.hib_collections.specs.Collected.{AreCollected}
 use Rattle.hib_collections.specs.Gatherers.{IsGatherer}
 use Rattle.hib_collections.specs.Kept.{Kept}
@@ -51,15 +51,29 @@ pub record IsRun (script : Script) (defs : List Def) (from : Origin) (g : Gather
 
 -- ---- a step
 
--- the keeper may be asked at an entry: of a session's plan, and not of a Hit
+-- how often the keeper is asked at an entry at most: once at one of a session's plan whose act asks, and never at one of a collection's region, as a Hit
 abbrev pub asks_at : Script → GatherEntry → Gathered → ℕ
 asks_at script (GatherEntry.Plain e) g = if asks (changes (unwrap_or e.session 0) (plain script g)) e.act then 1 else 0
 asks_at script (GatherEntry.Member m) g = 0
 
--- the entries at which the keeper may have been asked
+-- and at all entries
 abbrev pub ask_count : Script → Gathered → ℕ
 ask_count script [] = 0
 ask_count script (x ∷ g) = ask_count script g + asks_at script x g
+
+-- the keeper was asked no more often than the entry says that comes after these
+abbrev pub IsAskedAt : Script → GatherEntry → Gathered → EnginesState → EnginesState → Type 0
+IsAskedAt script e g x y = RoseWithin x.store.asked (asks_at script e g) y.store.asked
+
+-- what is left of the engines if this was due in session s and was refused for want of memory, or if nothing was due: a region of a collection
+-- doesn't call the keeper
+abbrev pub IsRefusedAt : Journal → ℕ → EnginesState → EnginesState → Option Due → Type 0
+IsRefusedAt h s x y (Some (Due.Plain a)) = IsRefused h s a x y
+IsRefusedAt h s x y _ = y ≡ x
+
+-- and so by what was due, whatever it was
+abbrev pub IsStepRefused : Script → List Def → Gathered → ℕ → EnginesState → EnginesState → Type 0
+IsStepRefused script defs g s x y = IsRefusedAt (plain script g) s x y (due script defs s g)
 
 -- an entry that says that the keeper failed
 abbrev pub says_fault : GatherEntry → Bool
@@ -107,7 +121,7 @@ pub record Serves (script : Script) (defs : List Def) (from : Origin) (s : ℕ) 
   pub some : is_done t ≡ false
   pub run : IsRun script defs from new y qs
   pub member : IsGatherer script new s v
-  pub asked : RoseWithin x.store.asked (asks_at script entry g) y.store.asked
+  pub asked : IsAskedAt script entry g x y
   pub fault : says_fault entry ≡ true → Rose x.store.faults y.store.faults
   pub told : plain script new ≡ told_in t entry ++ plain script g
 
@@ -119,10 +133,10 @@ pub record IsKept (script : Script) (u v : Gatherer) : Type 0 where
   pub missed : v.notes.missed ≡ u.notes.missed
   pub listed : v.notes.listed ≡ u.notes.listed
 
--- nothing was added: all is as before, but for the keeper's counts
-pub record Leaves (script : Script) (g new : Gathered) (x y : EnginesState) (rs qs : List Region) (u v : Gatherer) : Type 0 where
+-- nothing was added: all is as before, but for the keeper's counts, if what was due calls it
+pub record Leaves (script : Script) (defs : List Def) (g new : Gathered) (x y : EnginesState) (rs qs : List Region) (u v : Gatherer) : Type 0 where
   pub same : new ≡ g
-  pub engines : IsStill x y
+  pub engines : IsStepRefused script defs g (number_of u.session) x y
   pub regions : qs ≡ rs
   pub kept : IsKept script u v
 
@@ -130,7 +144,7 @@ pub record Leaves (script : Script) (g new : Gathered) (x y : EnginesState) (rs 
 pub record Rests (script : Script) (defs : List Def) (s : ℕ) (g new : Gathered) (x y : EnginesState) (rs qs : List Region) (u v : Gatherer) : Type 0 where
   pub over : due script defs s g ≡ None
   pub still : y ≡ x
-  pub leaves : Leaves script g new x y rs qs u v
+  pub leaves : Leaves script defs g new x y rs qs u v
 
 abbrev pub Turns : Script → List Def → Origin → ℕ → Gathered → Gathered → EnginesState → EnginesState → List Region → List Region → Gatherer → Gatherer → Turned → Type 0
 Turns script defs from s g new x y rs qs u v Turned.Done = Rests script defs s g new x y rs qs u v
@@ -144,7 +158,7 @@ pub record HasMoved (script : Script) (defs : List Def) (s : ℕ) (g new : Gathe
   pub grown : new ≡ entry ∷ g
   pub by : is_by s entry ≡ true
   pub due : is_some (due script defs s g) ≡ true
-  pub asked : RoseWithin x.store.asked (asks_at script entry g) y.store.asked
+  pub asked : IsAskedAt script entry g x y
   pub fault : says_fault entry ≡ true → Rose x.store.faults y.store.faults
   pub told : plain script new ≡ told_in t entry ++ plain script g
 

@@ -18,9 +18,9 @@ IsShared script defs from x = IsRun script defs from (past x.journal) x.engines 
 abbrev pub HasServed : {K : Type 0} → Script → List Def → Origin → GatherShared K → GatherShared K → Gatherer → Gatherer → Turned → Type 0
 HasServed script defs from x y u v t = Serves script defs from (number_of u.session) (past x.journal) (past y.journal) x.engines y.engines y.regions.items v t
 
--- nothing was added: all is as before, but for the keeper's counts
-abbrev pub HasLeft : {K : Type 0} → Script → GatherShared K → GatherShared K → Gatherer → Gatherer → Type 0
-HasLeft script x y u v = Leaves script (past x.journal) (past y.journal) x.engines y.engines x.regions.items y.regions.items u v
+-- nothing was added: all is as before, but for the keeper's counts, if what was due calls it
+abbrev pub HasLeft : {K : Type 0} → Script → List Def → GatherShared K → GatherShared K → Gatherer → Gatherer → Type 0
+HasLeft script defs x y u v = Leaves script defs (past x.journal) (past y.journal) x.engines y.engines x.regions.items y.regions.items u v
 
 -- one or the other
 abbrev pub HasTurned : {K : Type 0} → Script → List Def → Origin → GatherShared K → GatherShared K → Gatherer → Gatherer → Turned → Type 0

@@ -2,7 +2,7 @@
 use Rattle.std.specs.Prelude.{ℕ, ◌+◌, ◌==◌, ◌&&◌, Bool, true, false, List, [], ◌∷◌, ◌++◌, length, slice_get, codes, flat_map, count_by}
 use Rattle.std.specs.Option.{option_map_or}
 use Rattle.std.specs.Fmt.{decimal}
-use Rattle.hib_journal.specs.Types.{Put, Reply, Script}
+use Rattle.hib_journal.specs.Types.{Reply, Script}
 use Rattle.hib_listeners.specs.Counts.{is_put_stored}
 use Rattle.hib_report.specs.Lines.{line_text, reply_text}
 use Rattle.hib_texts.specs.Texts.{list_text, session_text}

@@ -162,7 +162,8 @@ fn serve_hit<K: Keeper, N: Name>(
     requires is_hit { is_some (list_of_hit reply) ≡ true }
     ensures ok { IfOk result (HasServed N.script N.defs N.from shared.old shared.new gatherer.old
         gatherer.new) }
-    ensures err { OnErr result (HasLeft N.script shared.old shared.new gatherer.old gatherer.new) }
+    ensures err { OnErr result (HasLeft N.script N.defs shared.old shared.new gatherer.old
+        gatherer.new) }
 {
     lists_leave();
     let act = MemberAct::Get {
@@ -198,7 +199,8 @@ pub fn serve_get<K: Keeper, N: Name>(
         (plain N.script (past shared.old.journal)))))) }
     ensures ok { IfOk result (HasServed N.script N.defs N.from shared.old shared.new gatherer.old
         gatherer.new) }
-    ensures err { OnErr result (HasLeft N.script shared.old shared.new gatherer.old gatherer.new) }
+    ensures err { OnErr result (HasLeft N.script N.defs shared.old shared.new gatherer.old
+        gatherer.new) }
 {
     let number = gatherer.session.number();
     let get = Act::Get {
@@ -241,7 +243,8 @@ pub fn serve_put<K: Keeper, N: Name>(
     requires listed { gatherer.old.notes.listed ≡ Some (place, cells) }
     ensures ok { IfOk result (HasServed N.script N.defs N.from shared.old shared.new gatherer.old
         gatherer.new) }
-    ensures err { OnErr result (HasLeft N.script shared.old shared.new gatherer.old gatherer.new) }
+    ensures err { OnErr result (HasLeft N.script N.defs shared.old shared.new gatherer.old
+        gatherer.new) }
 {
     let number = gatherer.session.number();
     let time = gatherer.session.time();
@@ -283,7 +286,8 @@ pub fn serve_lock<K: Keeper, N: Name>(
         (plain N.script (past shared.old.journal)))))) }
     ensures ok { IfOk result (HasServed N.script N.defs N.from shared.old shared.new gatherer.old
         gatherer.new) }
-    ensures err { OnErr result (HasLeft N.script shared.old shared.new gatherer.old gatherer.new) }
+    ensures err { OnErr result (HasLeft N.script N.defs shared.old shared.new gatherer.old
+        gatherer.new) }
 {
     let number = gatherer.session.number();
     let floor = gatherer.session.floor();
@@ -318,7 +322,8 @@ pub fn serve_unlock<K: Keeper, N: Name>(
         ≡ Some (Due.Member place (MemberAct.Unlock lock)) }
     ensures ok { IfOk result (HasServed N.script N.defs N.from shared.old shared.new gatherer.old
         gatherer.new) }
-    ensures err { OnErr result (HasLeft N.script shared.old shared.new gatherer.old gatherer.new) }
+    ensures err { OnErr result (HasLeft N.script N.defs shared.old shared.new gatherer.old
+        gatherer.new) }
 {
     let number = gatherer.session.number();
     let unlock = Act::Unlock {

@@ -13,10 +13,11 @@ ghost use Rattle.hib_listeners.specs.Heard.{HaveHeard};
 ghost use Rattle.hib_collections_law.specs.declared.entries.GatherEntry.{GatherEntry};
 ghost use Rattle.hib_collections_law.specs.Gathered.{plain};
 ghost use Rattle.hib_collections.specs.Kept.{past};
-ghost use Rattle.hib_collections.specs.Run.{AreSet, IsAskedOnceMore, ask_count, says_fault};
+ghost use Rattle.hib_collections.specs.Run.{AreSet, IsAskedAt, IsAskedOnceMore, IsStepRefused, ask_count, says_fault};
 ghost use Rattle.hib_collections.specs.Obeyed.{Obeys};
 ghost use Rattle.hib_collections.specs.Gather.{Hears, HasStepped, IsOver, heard_in};
-ghost use Rattle.hib_collections.specs.Played.{GoesOn, has_next};
+ghost use Rattle.hib_playing.specs.Playing.{GoesOn};
+ghost use Rattle.hib_collections.specs.Played.{has_next};
 
 use crate::gathered::Gathered;
 use crate::names::Name;
@@ -111,9 +112,10 @@ impl<K: Keeper, N: Name, L: Listener> Gather<K, N, L> {
     }
 
     /// One step of a session: what is due in it, if anything is, and then the listeners hear of its entry. The other
-    /// sessions stay as they are. If memory runs out no entry is added and nothing has changed, but the answer of
-    /// `refused` and the keeper's counts; so a later call may succeed. Only if a listener had none does the entry
-    /// stand, and no call adds another. The session must be the script's.
+    /// sessions stay as they are. The keeper is asked once at most, and only if an act of the session's plan asks for
+    /// rows: a hit asks it nothing. If memory runs out no entry is added and nothing has changed, but the answer of
+    /// `refused` and, if what was due calls the keeper, its counts; so a later call may succeed. Only if a listener had
+    /// none does the entry stand, and no call adds another. The session must be the script's.
     pub fn step(&mut self, alloc: Global, number: SessionNo) -> Result<Stepped, AllocError>
         requires known { number < length N.script.sessions }
         ensures did { result ≡ Ok Stepped.Did → HasStepped N.script N.defs number
@@ -124,6 +126,8 @@ impl<K: Keeper, N: Name, L: Listener> Gather<K, N, L> {
         ensures fault { (x : GatherEntry) → past self.new.journal ≡ x ∷ past self.old.journal
             → says_fault x ≡ true
             → Rose self.old.engines.store.faults self.new.engines.store.faults }
+        ensures asks_once { (x : GatherEntry) → past self.new.journal ≡ x ∷ past self.old.journal
+            → IsAskedAt N.script x (past self.old.journal) self.old.engines self.new.engines }
         ensures going { OnOk result (self.new.refused ≡ self.old.refused) }
         ensures hears { Hears (plain N.script (past self.old.journal))
             (plain N.script (past self.new.journal)) (is_ok result) self.old.told self.new.told }
@@ -131,6 +135,9 @@ impl<K: Keeper, N: Name, L: Listener> Gather<K, N, L> {
             → past self.new.journal ≡ past self.old.journal) }
         ensures still { OnErr result (self.new.deaf ≡ self.old.deaf
             → IsStill self.old.engines self.new.engines) }
+        ensures counts { OnErr result (self.new.deaf ≡ self.old.deaf
+            → IsStepRefused N.script N.defs (past self.old.journal) number self.old.engines
+            self.new.engines) }
         ensures unheard { OnErr result (self.old.deaf ≡ false → self.new.deaf ≡ true
             → HasStepped N.script N.defs number (past self.old.journal) (past self.new.journal)) }
         ensures deaf { self.old.deaf ≡ true → self.new ≡ self.old }

@@ -1,13 +1,13 @@
 // `collect` plays the schedule of its script, and runs the sessions to their ends.
 ghost use Rattle.std.specs.Prelude.{◌≡◌, ◌<◌, ◌==◌, ℕ, [], length, OnOk, OnErr, true, false};
-ghost use Rattle.std.specs.List.{range_with_len};
 ghost use Rattle.hib_base.specs.declared.scripts.Order.{Order};
+ghost use Rattle.hib_playing.specs.Playing.{GoesOn, Leads, play_all, play_each, play_steps, played};
 ghost use Rattle.hib_collections.specs.Gather.{HasStopped};
 ghost use Rattle.hib_collections.specs.Kept.{past};
 ghost use Rattle.hib_collections.specs.Obeyed.{Obeys};
 ghost use Rattle.hib_collections.specs.Run.{IsAskedOnceMore};
-ghost use Rattle.hib_collections.specs.Played.{played, has_next, is_played, play_all, play_order, play_orders};
-ghost use Rattle.hib_collections.specs.Played.{play_script, play_sessions, play_steps, AreOver, GoesOn, Leads};
+ghost use Rattle.hib_collections.specs.Played.{AreOver, has_next, is_played, play_order, play_script, play_sessions};
+ghost use Rattle.hib_collections_law.specs.Gathered.{is_by};
 
 use crate::gather::Gather;
 use crate::names::Name;
@@ -20,7 +20,8 @@ impl<K: Keeper, N: Name, L: Listener> Gather<K, N, L> {
     /// Runs a session for `steps` steps, or to its end if that comes before. A session that isn't there has none. If
     /// memory runs out the steps so far stand.
     fn run_steps(&mut self, alloc: Global, number: SessionNo, steps: u32) -> Result<(), AllocError>
-        ensures played { OnOk result (Leads (play_steps N.script N.defs number steps) played
+        ensures played { OnOk result (Leads
+            (play_steps (has_next N.script N.defs) is_by number steps) played
             (past self.old.journal) (past self.new.journal)) }
         ensures law { Obeys N.script N.defs N.from.tables (past self.new.journal) }
         ensures going { OnOk result (self.new.refused ≡ self.old.refused) }
@@ -43,8 +44,8 @@ impl<K: Keeper, N: Name, L: Listener> Gather<K, N, L> {
     /// Runs a session to its end. It must be the script's. If memory runs out the steps so far stand.
     pub fn run_session(&mut self, alloc: Global, number: SessionNo) -> Result<(), AllocError>
         requires known { number < length N.script.sessions }
-        ensures played { OnOk result (Leads (play_all N.script N.defs number) played
-            (past self.old.journal) (past self.new.journal)) }
+        ensures played { OnOk result (Leads (play_all (has_next N.script N.defs) is_by number)
+            played (past self.old.journal) (past self.new.journal)) }
         ensures over { OnOk result
             (has_next N.script N.defs (past self.new.journal) number ≡ false) }
         ensures stay { OnOk result ((s : ℕ) → (number == s) ≡ false
@@ -65,9 +66,8 @@ impl<K: Keeper, N: Name, L: Listener> Gather<K, N, L> {
 
     /// Runs each session to its end, the first one first. If memory runs out the steps so far stand.
     pub fn finish(&mut self, alloc: Global) -> Result<(), AllocError>
-        ensures played { OnOk result
-            (Leads (play_sessions N.script N.defs (range_with_len 0 (length N.script.sessions)))
-            played (past self.old.journal) (past self.new.journal)) }
+        ensures played { OnOk result (Leads (play_sessions N.script N.defs) played
+            (past self.old.journal) (past self.new.journal)) }
         ensures over { OnOk result (AreOver N.script N.defs (past self.new.journal)) }
         ensures law { Obeys N.script N.defs N.from.tables (past self.new.journal) }
         ensures going { OnOk result (self.new.refused ≡ self.old.refused) }
@@ -97,7 +97,8 @@ impl<K: Keeper, N: Name, L: Listener> Gather<K, N, L> {
 
     /// Carries the orders of the schedule out, one after the other.
     fn follow_schedule(&mut self, alloc: Global) -> Result<(), AllocError>
-        ensures played { OnOk result (Leads (play_orders N.script N.defs N.script.schedule) played
+        ensures played { OnOk result (Leads
+            (play_each (play_order N.script N.defs) N.script.schedule) played
             (past self.old.journal) (past self.new.journal)) }
         ensures law { OnErr result (Obeys N.script N.defs N.from.tables (past self.new.journal)) }
         ensures going { OnOk result (self.new.refused ≡ self.old.refused) }

@@ -10,7 +10,7 @@ ghost use Rattle.hib_engines.specs.Engines.{IsStill};
 ghost use Rattle.hib_engines.specs.Origin.{origin_over};
 ghost use Rattle.hib_collections_law.specs.Gathered.{plain};
 ghost use Rattle.hib_collections.specs.Kept.{past};
-ghost use Rattle.hib_collections.specs.Run.{AreSet, Does, IsAsked, IsAskedOnceMore, ask_count};
+ghost use Rattle.hib_collections.specs.Run.{AreSet, Does, IsAsked, IsAskedOnceMore, IsStepRefused, ask_count};
 ghost use Rattle.hib_collections.specs.Obeyed.{Obeys};
 ghost use Rattle.hib_collections.specs.Played.{has_next};
 
@@ -104,9 +104,10 @@ impl<K: Keeper, N: Name> GatherCore<K, N> {
         })
     }
 
-    /// One step of a session: what is due in it, if anything is. If memory runs out no entry is added and nothing has
-    /// changed, but the answer of `refused` and the keeper's counts; so a later call may succeed. The session must be
-    /// the script's.
+    /// One step of a session: what is due in it, if anything is. The keeper is asked once at most, and only if an act
+    /// of the session's plan asks for rows: a hit asks it nothing. If memory runs out no entry is added and nothing has
+    /// changed, but the answer of `refused` and, if what was due calls the keeper, its counts; so a later call may
+    /// succeed. The session must be the script's.
     pub fn step(&mut self, alloc: Global, number: SessionNo) -> Result<Turned, AllocError>
         requires known { number < length N.script.sessions }
         ensures does { IfOk result (Does N.script N.defs number (past self.old.journal)
@@ -116,6 +117,8 @@ impl<K: Keeper, N: Name> GatherCore<K, N> {
             → IsAsked N.script N.from (past self.new.journal) self.new.engines) }
         ensures same { OnErr result (past self.new.journal ≡ past self.old.journal) }
         ensures still { OnErr result (IsStill self.old.engines self.new.engines) }
+        ensures counts { OnErr result (IsStepRefused N.script N.defs (past self.old.journal) number
+            self.old.engines self.new.engines) }
         ensures asked { OnErr result (self.old.refused ≡ false
             → IsAskedOnceMore N.script N.from (past self.new.journal) self.new.engines) }
         ensures refused { OnErr result (self.new.refused ≡ true) }

@@ -11,7 +11,7 @@ ghost use Rattle.hib_engines.specs.Engines.{IsStill};
 ghost use Rattle.hib_collections_law.specs.Gathered.{Due, due};
 ghost use Rattle.hib_collections.specs.Kept.{past};
 ghost use Rattle.hib_collections.specs.Gatherers.{AreGatherers, IsGatherer};
-ghost use Rattle.hib_collections.specs.Run.{Does, IsKept, IsTurn, is_done};
+ghost use Rattle.hib_collections.specs.Run.{Does, IsKept, IsStepRefused, IsTurn, is_done};
 ghost use Rattle.hib_collections.specs.Shared.{HasLeft, HasServed, HasTurned, IsShared};
 
 use crate::at_owners::{serve_get, serve_lock, serve_put, serve_unlock};
@@ -104,7 +104,8 @@ fn serve_plain<K: Keeper, N: Name>(
         ≡ Some (Due.Plain act) }
     ensures ok { IfOk result (HasServed N.script N.defs N.from shared.old shared.new gatherer.old
         gatherer.new) }
-    ensures err { OnErr result (HasLeft N.script shared.old shared.new gatherer.old gatherer.new) }
+    ensures err { OnErr result (HasLeft N.script N.defs shared.old shared.new gatherer.old
+        gatherer.new) }
 {
     let reply = shared
         .engines
@@ -147,7 +148,8 @@ fn serve<K: Keeper, N: Name>(
     requires unlisted { gatherer.old.notes.listed ≡ None }
     ensures ok { IfOk result (HasServed N.script N.defs N.from shared.old shared.new gatherer.old
         gatherer.new) }
-    ensures err { OnErr result (HasLeft N.script shared.old shared.new gatherer.old gatherer.new) }
+    ensures err { OnErr result (HasLeft N.script N.defs shared.old shared.new gatherer.old
+        gatherer.new) }
 {
     match comes_before(script, defs, &gatherer.session, &gatherer.notes, &act) {
         Before::Nothing => serve_plain::<K, N>(alloc, script, gatherer, shared, act, tick),
@@ -160,7 +162,7 @@ fn serve<K: Keeper, N: Name>(
 }
 
 /// One act of a session, if one is due: what was listed after a miss is offered first. If memory runs out nothing has
-/// changed, but for the keeper's counts.
+/// changed, but for the keeper's counts if what was due calls it.
 fn take_turn<K: Keeper, N: Name>(
     alloc: Global,
     script: &Script,
@@ -175,7 +177,8 @@ fn take_turn<K: Keeper, N: Name>(
         (number_of gatherer.old.session) gatherer.old }
     ensures ok { IfOk result (HasTurned N.script N.defs N.from shared.old shared.new gatherer.old
         gatherer.new) }
-    ensures err { OnErr result (HasLeft N.script shared.old shared.new gatherer.old gatherer.new) }
+    ensures err { OnErr result (HasLeft N.script N.defs shared.old shared.new gatherer.old
+        gatherer.new) }
 {
     let tick = prepare(alloc, script, gatherer, &mut shared.journal)?;
     if let Some((place, list)) = gatherer.notes.copy_of_listed(alloc)? {
@@ -211,7 +214,7 @@ pub fn has_turn<N: Name>(
 }
 
 /// One act of the session of this number, if one is due. If memory runs out nothing has changed, but for the keeper's
-/// counts.
+/// counts if what was due calls it.
 pub fn turn<K: Keeper, N: Name>(
     alloc: Global,
     script: &Script,
@@ -231,6 +234,8 @@ pub fn turn<K: Keeper, N: Name>(
         (past shared.new.journal) shared.old.engines shared.new.engines) }
     ensures same { OnErr result (past shared.new.journal ≡ past shared.old.journal) }
     ensures err { OnErr result (IsStill shared.old.engines shared.new.engines) }
+    ensures counts { OnErr result (IsStepRefused N.script N.defs (past shared.old.journal) number
+        shared.old.engines shared.new.engines) }
 {
     let gatherer = &mut gatherers[number.0 as usize];
     take_turn::<K, N>(alloc, script, defs, gatherer, shared)

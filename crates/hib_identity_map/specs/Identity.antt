@@ -67,10 +67,10 @@ state_written _ = State.Managed
 
 -- an instance whose row was written: it stands for that row, and stays removed if it is
 abbrev pub written : Row → Held → Held
-written r h = record { state = state_written h.state; base = Some r; row = record { version = r.version; cells = h.row.cells }; removed = h.removed }
+written r h = record { state = state_written h.state; base = Some r; row = record { version = r.version; cells = h.row.cells } }
 
 abbrev pub as_removed : Held → Held
-as_removed h = record { state = State.Removed; base = h.base; row = h.row; removed = h.removed }
+as_removed h = record { state = State.Removed; base = h.base; row = h.row }
 
 abbrev pub with_sets : List (ℕ × Cell) → Held → Held
-with_sets sets h = record { state = h.state; base = h.base; row = record { version = h.row.version; cells = with_cells sets h.row.cells }; removed = h.removed }
+with_sets sets h = record { state = h.state; base = h.base; row = record { version = h.row.version; cells = with_cells sets h.row.cells } }

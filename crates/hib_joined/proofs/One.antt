@@ -22,8 +22,8 @@ use Rattle.hib_engines.specs.Counts.{RoseBy, RoseWithin}
 use Rattle.hib_engines.specs.Origin.{Origin}
 use Rattle.hib_split.specs.Alone.{AreAtEnds, AreListed, AreOneByOne, IsToldBy}
 use Rattle.hib_joined.specs.declared.joining.Joined.{Joined}
-use Rattle.hib_joined.specs.Joined.{AreApart, AreJoinedUnless}
-use Rattle.hib_joined.specs.Run.{CameToOne, IsOneRun}
+use Rattle.hib_joined.specs.Joined.{AreApart, AreJoined, AreJoinedUnless}
+use Rattle.hib_joined.specs.Run.{CameToOne, HaveParted, IsOneRun}
 
 -- ---- laws that are called
 abbrev pub LegalMerged : Type 0
@@ -92,6 +92,11 @@ apart mine j (Torn.Region a f) (inr x) = absurd x.1
 apart mine j (Torn.Tick e due) (inl x) = absurd x
 apart mine j (Torn.Tick e due) (inr x) = x.1.other
 
+parted : (script : Script) (told : Option Tables) (lists : List Journal) (mine : List Kept) (t : Torn) → AreListed script told lists (map past mine) → AreJoined lists mine (Joined.Torn t) → HaveParted script told t
+parted script told lists mine (Torn.Lists m p) listed j = (lists, mine, listed, j)
+parted script told lists mine (Torn.Region a f) listed j = tt
+parted script told lists mine (Torn.Tick e due) listed j = (lists, mine, listed, j)
+
 two : (n : ℕ) → 1 ≤ n → (n ≡ 1 → ⊥) → 2 ≤ n
 two zero l other = omega (arith, l)
 two (suc zero) l other = absurd (other refl)
@@ -107,7 +112,7 @@ pub came_to : LegalMerged → FewDue → StoreAlone → Obeyed → (n : ℕ) (sc
     (n ≡ 1 → short ≡ false → (h : Journal) → IsMerged (map past lists) h → Agrees (map past mine) h × AreDue h) →
     (n ≡ 1 → short ≡ false → AreOneByOne (map past lists)) → RoseBy from.faults 0 failed → AreJoinedUnless strange short (map past lists) mine joined → CameToOne n script from joined rows failed asked_for
 came_to lm fd sa ob n script from lists mine (Some p) short joined rows failed asked_for l listed ends told asked alone whole order f j =
-    subst (λ (z : Joined). CameToOne n script from z rows failed asked_for) (sym j.0) (two n l (λ e. none_some p (sym (alone e))), j.1, f)
+    subst (λ (z : Joined). CameToOne n script from z rows failed asked_for) (sym j.0) (two n l (λ e. none_some p (sym (alone e))), j.1, tt, f)
 came_to lm fd sa ob n script from lists mine None true joined rows failed asked_for l listed ends told asked alone whole order f j =
     subst (λ (z : Joined). CameToOne n script from z rows failed asked_for) (sym j) f
 came_to lm fd sa ob n script from lists mine None false (Joined.One k) rows failed asked_for l listed ends told asked alone whole order f j = (
@@ -115,5 +120,5 @@ came_to lm fd sa ob n script from lists mine None false (Joined.One k) rows fail
   λ e. order e refl (past k) j.0,
 )
 came_to lm fd sa ob n script from lists mine None false (Joined.Torn t) rows failed asked_for l listed ends told asked alone whole order f j =
-    (two n l (λ e. j.3 (whole e refl (past j.0) j.1)), apart mine j.0 t j.2, f)
+    (two n l (λ e. j.3 (whole e refl (past j.0) j.1)), apart mine j.0 t j.2, parted script from.tables (map past lists) mine t listed j, f)
 came_to lm fd sa ob n script from lists mine None false Joined.NoMemory rows failed asked_for l listed ends told asked alone whole order f j = f

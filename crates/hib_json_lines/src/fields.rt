@@ -1,5 +1,5 @@
 // The five members of an entry's object, read from a text.
-ghost use Rattle.hib_json_lines.specs.Line.{object_of, LineText};
+ghost use Rattle.hib_json_lines.specs.Line.{object_of, session_data, LineText};
 ghost use Rattle.hib_json_lines.specs.Members.{fields_of, text_at, session_at, tick_at};
 ghost use Rattle.serde_json.specs.Data.{depth};
 ghost use Rattle.serde_json.specs.Read.{read, max_depth};
@@ -42,21 +42,25 @@ impl Model for Line {
     } };
 }
 
+// The value of the session's member: null if there is no session.
+fn session_value(alloc: Global, session: &Option<String>) -> Result<Value, AllocError>
+    ensures { IfOk result (λ v. view v ≡ session_data (option_map string_bytes session.now)) }
+{
+    match session {
+        None => Ok(Value::Null),
+        Some(name) => Value::try_from_str(alloc, name.as_str()),
+    }
+}
+
 // The object of an entry.
 fn object(alloc: Global, line: &Line) -> Result<Value, AllocError>
     ensures { IfOk result (λ v. view v ≡ object_of line.now) }
 {
+    let session = session_value(alloc, &line.session)?;
     let act = line.act.as_str();
     let part = line.part.as_str();
     let reply = line.reply.as_str();
-    match &line.session {
-        None =>
-            json!(in alloc; {"act": act, "part": part, "reply": reply, "session": null, "tick": line.tick}),
-        Some(name) => {
-            let session = name.as_str();
-            json!(in alloc; {"act": act, "part": part, "reply": reply, "session": session, "tick": line.tick})
-        }
-    }
+    json!(in alloc; {"act": act, "part": part, "reply": reply, "session": session, "tick": line.tick})
 }
 
 /// The five members of the object that a text is, or none if it is no object with exactly these, of their forms. They

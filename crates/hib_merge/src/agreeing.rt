@@ -1,11 +1,12 @@
 // Whether the lists of sessions agree with a merged list, and whether its ticks are those that are due. hib_joined asks
 // it before it takes the merged list for the journal of a run.
-ghost use Rattle.std.specs.Prelude.{◌≡◌, ◌↔◌, true, length, IfOk, IsNone, MatchOption};
+ghost use Rattle.std.specs.Prelude.{◌≡◌, ◌↔◌, true, length, option_copied, IfOk, IsNone, MatchOption};
 ghost use Rattle.std.specs.List.{list_all};
+ghost use Rattle.hib_merge.specs.declared.tearing.Torn.{Torn};
 ghost use Rattle.hib_merge.specs.Tearing.{AreSameBelow, IsFirstUnknown, IsSessionTorn, IsTorn, IsWhole};
 
 use crate::Lists;
-use crate::differences::{copy_at, difference};
+use crate::differences::difference;
 use crate::placing::own_lists;
 use crate::tearing::Torn;
 use crate::ticks::torn_tick;
@@ -15,23 +16,46 @@ use std::alloc::{AllocError, Global};
 
 /// In the first session whose list differs from its entries: what each has at the first place where they do. None if no
 /// list differs.
-fn torn_lists(
+fn parted<'a>(
     alloc: Global,
-    mine: &[Journal],
-    entries: &[Entry],
-) -> Result<Option<(Option<Entry>, Option<Entry>)>, AllocError>
+    mine: &'a [Journal],
+    entries: &'a [Entry],
+) -> Result<Option<(Option<&'a Entry>, Option<&'a Entry>)>, AllocError>
     ensures { IfOk result (λ o. MatchOption o (AreSameBelow (length mine.now) mine.now entries.now)
-        (λ t. IsSessionTorn mine.now entries.now t.0 t.1)) }
+        (λ t. IsSessionTorn mine.now entries.now (option_copied t.0) (option_copied t.1))) }
 {
     let owns = own_lists(alloc, entries, mine.len())?;
     for s in 0..mine.len() {
         let listed = mine[s].as_slice();
         let own = &owns[s];
         if let Some(place) = difference(listed, own) {
-            return Ok(Some((copy_at(alloc, listed, place)?, own.copy_at(alloc, place)?)));
+            return Ok(Some((listed.get(place), own.get(place))));
         }
     }
     Ok(None)
+}
+
+/// Torn lists, with copies of what they have where they part.
+fn torn_lists(
+    alloc: Global,
+    mine: Option<&Entry>,
+    part: Option<&Entry>,
+) -> Result<Option<Torn>, AllocError>
+    ensures { IfOk result (λ o. o ≡ Some (Torn.Lists (option_copied mine.entry) (option_copied part.entry))) }
+{
+    let mine = copy_of(alloc, mine)?;
+    let part = copy_of(alloc, part)?;
+    Ok(Some(Torn::Lists { mine, part }))
+}
+
+/// A copy of an entry, if there is one.
+fn copy_of(alloc: Global, entry: Option<&Entry>) -> Result<Option<Entry>, AllocError>
+    ensures { IfOk result (λ e. e ≡ option_copied entry.entry) }
+{
+    match entry {
+        Some(entry) => Ok(Some(entry.copy(alloc)?)),
+        None => Ok(None),
+    }
 }
 
 /// Whether an entry is of one of the first `count` sessions.
@@ -66,15 +90,11 @@ fn first_torn(alloc: Global, merged: &Journal, mine: &Lists) -> Result<Option<To
     let _count = merged.len();
     let entries = merged.as_slice();
     let lists = mine.as_slice();
-    if let Some((listed, own)) = torn_lists(alloc, lists, entries)? {
-        return Ok(Some(Torn::Lists {
-            mine: listed,
-            part: own,
-        }));
+    if let Some((listed, own)) = parted(alloc, lists, entries)? {
+        return torn_lists(alloc, listed, own);
     }
     if let Some(entry) = first_unknown(lists.len(), entries) {
-        let part = Some(entry.copy(alloc)?);
-        return Ok(Some(Torn::Lists { mine: None, part }));
+        return torn_lists(alloc, None, Some(entry));
     }
     torn_tick(alloc, entries)
 }

@@ -1,10 +1,9 @@
 // Where a session's list and its entries in the merged list differ.
-ghost use Rattle.std.specs.Prelude.{◌≡◌, ◌↔◌, IsTrue, slice_get, IfOk, MatchOption};
+ghost use Rattle.std.specs.Prelude.{◌≡◌, ◌↔◌, IsTrue, MatchOption};
 ghost use Rattle.hib_merge.specs.Tearing.{PartAt};
 
 use crate::pointed::Pointed;
 use hib_base::{Act, Entry, Reply};
-use std::alloc::{AllocError, Global};
 
 /// Whether two acts are equal.
 #[tactic(auto, using(hib_base::proofs::Equality::act_decides))]
@@ -52,14 +51,4 @@ pub fn difference(entries: &[Entry], others: &Pointed<'_>) -> Option<usize>
         return Some(entries.len());
     }
     None
-}
-
-/// An equal entry to the one at a place, or none past the last. It is told of lists that differ.
-pub fn copy_at(alloc: Global, entries: &[Entry], place: usize) -> Result<Option<Entry>, AllocError>
-    ensures { IfOk result (λ e. e ≡ slice_get entries.now place) }
-{
-    match entries.get(place) {
-        Some(entry) => Ok(Some(entry.copy(alloc)?)),
-        None => Ok(None),
-    }
 }

@@ -68,16 +68,6 @@ impl<'a> Pointed<'a> {
         self.entries.get(place).copied()
     }
 
-    /// An equal entry to the one at a place, or none past the last.
-    pub fn copy_at(&self, alloc: Global, place: usize) -> Result<Option<Entry>, AllocError>
-        ensures { IfOk result (λ e. e ≡ slice_get self.now place) }
-    {
-        match self.get(place) {
-            Some(entry) => Ok(Some(entry.copy(alloc)?)),
-            None => Ok(None),
-        }
-    }
-
     /// A list of equal entries.
     pub fn copy(&self, alloc: Global) -> Result<Journal, AllocError>
         ensures { IfOk result (λ j. j.list ≡ self.now) }

@@ -19,6 +19,7 @@ mod Going
 mod Delivering
 mod Turned
 mod Still
+mod Refused
 mod Stepped
 mod Obeyed
 mod Closing

@@ -15,12 +15,13 @@ use Rattle.hib_nodes_law.specs.Types.{Noded, Nodings}
 use Rattle.hib_nodes_law.specs.Nodes.{entries}
 use Rattle.hib_nodes_law.specs.Legal.{node_of}
 use Rattle.hib_nodes.specs.Kept.{past}
-use Rattle.hib_nodes.specs.Standing.{NodesPartsState, IsReady, IsTold, entry_on, is_node}
+use Rattle.hib_nodes.specs.Standing.{NodesPartsState, IsReady, IsRefused, IsStepRefused, IsTold, entry_on, is_node}
 use Rattle.hib_nodes.specs.Queue.{QueuesState, AreQueues, AreWaiting, queue_in, other_node}
 use Rattle.hib_nodes.specs.Run.{IsRun, AreSet}
 use Rattle.hib_nodes.specs.Shared.{SharedState, IsShared, IsTurn, Serves}
 use Rattle.hib_nodes.specs.Turns.{keys_at, is_committed}
 use Rattle.hib_nodes.proofs.Going.{before_next, runs_on}
+use Rattle.hib_nodes.proofs.Refused.{refused_at}
 use Rattle.hib_nodes.proofs.Turned.{committed_keys, queues_more}
 
 -- a place is a node, and so is the node of a session that has none
@@ -91,19 +92,13 @@ serves_of script places from a r x w q y z e ks shared turn few told faults is g
     n : ℕ
     n = node_of places (number_of y)
 
--- what the parts were asked for
-pub asked_of : (given script : Script) (places : Nodings) (from : Origin) (n tick : ℕ) (x : SharedState) (y : Session) (a : Act) (r : Reply) (w : NodesPartsState) → given ≡ script →
-    n ≡ node_of places (number_of y) → tick ≡ length (past x.journal) + 1 → IsShared script places from x → IsTurn script (past x.journal) y a →
-    ((o : Option Tables) (h : Noded) → Follows given y (own (number_of y) (entries h)) → IsReady given o h n (number_of y) tick a x.parts → IsTold given o h n (number_of y) tick a r x.parts w) →
-    IsTold script from.tables (past x.journal) (node_of places (number_of y)) (number_of y) (length (past x.journal) + 1) a r x.parts w
-asked_of given script places from n tick x y a r w q m t s turn f =
-    subst (λ i. IsTold script from.tables h its k i a r x.parts w) t
-    (subst (λ i. IsTold script from.tables h i k tick a r x.parts w) m
-    (subst (λ (v : Script). IsTold v from.tables h n k tick a r x.parts w) q
-    (f from.tables h (subst (λ (v : Script). Follows v y (own k (entries h))) (sym q) turn.follows)
-    (subst (λ i. IsReady given from.tables h i k tick a x.parts) (sym m)
+-- by the script, the node and the tick that were handed in
+ready_by : (given script : Script) (places : Nodings) (from : Origin) (n tick : ℕ) (x : SharedState) (y : Session) (a : Act) → given ≡ script → n ≡ node_of places (number_of y) →
+    tick ≡ length (past x.journal) + 1 → IsShared script places from x → IsTurn script (past x.journal) y a → IsReady given from.tables (past x.journal) n (number_of y) tick a x.parts
+ready_by given script places from n tick x y a q m t s turn =
+    subst (λ i. IsReady given from.tables h i k tick a x.parts) (sym m)
     (subst (λ i. IsReady given from.tables h its k i a x.parts) (sym t)
-    (subst (λ (v : Script). IsReady v from.tables h its k (length h + 1) a x.parts) (sym q) (ready_of script places from h x.parts y a s.run turn)))))))
+    (subst (λ (v : Script). IsReady v from.tables h its k (length h + 1) a x.parts) (sym q) (ready_of script places from h x.parts y a s.run turn)))
   where
     h : Noded
     h = past x.journal
@@ -113,6 +108,33 @@ asked_of given script places from n tick x y a r w q m t s turn f =
 
     its : ℕ
     its = node_of places (number_of y)
+
+-- what the parts were asked for
+pub asked_of : (given script : Script) (places : Nodings) (from : Origin) (n tick : ℕ) (x : SharedState) (y : Session) (a : Act) (r : Reply) (w : NodesPartsState) → given ≡ script →
+    n ≡ node_of places (number_of y) → tick ≡ length (past x.journal) + 1 → IsShared script places from x → IsTurn script (past x.journal) y a →
+    ((o : Option Tables) (h : Noded) → Follows given y (own (number_of y) (entries h)) → IsReady given o h n (number_of y) tick a x.parts → IsTold given o h n (number_of y) tick a r x.parts w) →
+    IsTold script from.tables (past x.journal) (node_of places (number_of y)) (number_of y) (length (past x.journal) + 1) a r x.parts w
+asked_of given script places from n tick x y a r w q m t s turn f =
+    subst (λ i. IsTold script from.tables h its k i a r x.parts w) t
+    (subst (λ i. IsTold script from.tables h i k tick a r x.parts w) m
+    (subst (λ (v : Script). IsTold v from.tables h n k tick a r x.parts w) q
+    (f from.tables h (subst (λ (v : Script). Follows v y (own k (entries h))) (sym q) turn.follows) (ready_by given script places from n tick x y a q m t s turn))))
+  where
+    h : Noded
+    h = past x.journal
+
+    k : ℕ
+    k = number_of y
+
+    its : ℕ
+    its = node_of places (number_of y)
+
+-- and what they leave if they refuse it
+pub refused_of : (given script : Script) (places : Nodings) (from : Origin) (n tick : ℕ) (x : SharedState) (y : Session) (a : Act) (w : NodesPartsState) → given ≡ script →
+    n ≡ node_of places (number_of y) → tick ≡ length (past x.journal) + 1 → IsShared script places from x → IsTurn script (past x.journal) y a →
+    ((o : Option Tables) (h : Noded) → IsReady given o h n (number_of y) tick a x.parts → IsRefused h (number_of y) a x.parts w) → IsStepRefused script (past x.journal) (number_of y) x.parts w
+refused_of given script places from n tick x y a w q m t s turn f =
+    refused_at script (past x.journal) (number_of y) a x.parts w turn.next (f from.tables (past x.journal) (ready_by given script places from n tick x y a q m t s turn))
 
 pub entry_is : (h : Noded) (s n t : ℕ) (a : Act) (r : Reply) (p : Part) → t ≡ length h + 1 → n ≡ s → p ≡ part_of a n →
     ◌≡◌ {A = Entry} (record { tick = t; session = Some n; part = p; act = a; reply = r }) (entry_at (length h + 1) (Some s) a r)

@@ -25,9 +25,10 @@ use Rattle.hib_nodes_law.specs.Types.{Noded, Nodings}
 use Rattle.hib_nodes_law.specs.Nodes.{entries}
 use Rattle.hib_nodes_law.specs.Legal.{node_of}
 use Rattle.hib_nodes.specs.Kept.{past}
-use Rattle.hib_nodes.specs.Standing.{NodesPartsState, IsAskedFor, entry_on}
+use Rattle.hib_nodes.specs.Standing.{NodesPartsState, IsAskedFor, IsStepRefused, IsStill, entry_on}
 use Rattle.hib_nodes.specs.Shared.{SharedState, AreSessions, HasTurned, IsAskedOn, IsShared, IsTurn, Leaves, Moves, Serves}
 use Rattle.hib_nodes.specs.Turns.{IsKept}
+use Rattle.hib_nodes.proofs.Refused.{still_of}
 use Rattle.hib_nodes.proofs.Still.{shared_still}
 use Rattle.hib_nodes.proofs.Turned.{asked_on}
 
@@ -154,7 +155,10 @@ turned script places from s r x w xs y z k all p did done rests left = by_result
             done = λ i. absurd (did_not (sym e ∙ i));
             same = λ i. absurd (i e);
             still = λ i. absurd (i e);
+            counts = λ i. absurd (i e);
             asked = subst (λ o. OnOk o (IsAskedOn x w)) (sym e) (asked m);
+            asks_once = λ f q. subst (λ (t : NodeEntry). IsAskedFor (past x.journal) s t.entry.act x.parts w.parts) (same_entry one f (past x.journal) (past w.journal) m.serves.grown q)
+                (subst (λ n. IsAskedFor (past x.journal) n m.act x.parts w.parts) here m.serves.asked);
             fault = λ f q i. m.serves.fault (subst (λ (t : NodeEntry). is_fault t.entry.reply ≡ true) (sym (same_entry one f (past x.journal) (past w.journal) m.serves.grown q)) i);
           };
           sessions = sessions_on script (past x.journal) (past w.journal) s xs y z all p m.serves.number (subst (λ n. Follows script z (own n (entries (past w.journal)))) here m.serves.follows)
@@ -164,17 +168,22 @@ turned script places from s r x w xs y z k all p did done rests left = by_result
     by_leave : OnOk r (IsAskedOn x w) → (r ≡ Ok Stepped.Did → ⊥) → Leaves script x w y z → Turned script places from s r x w (slice_set xs s z)
     by_leave a f v = record {
       turned = record {
-        shared = shared_still script places from x w k v.same v.parts v.queues;
+        shared = shared_still script places from x w k v.same still v.queues;
         did = λ i. absurd (f i);
         done = λ i. record { same = v.same; over = ap (λ g. next script s (own s (entries g))) v.same ∙ subst (λ n. next script n (own n (entries (past x.journal))) ≡ None) here (done i) };
         same = λ i. v.same;
-        still = λ i. v.parts;
+        still = λ i. still;
+        counts = λ i. subst (λ n. IsStepRefused script (past x.journal) n x.parts w.parts) here v.parts;
         asked = a;
+        asks_once = λ e q. absurd (no_entry e (past x.journal) (past w.journal) v.same q);
         fault = λ e q i. absurd (no_entry e (past x.journal) (past w.journal) v.same q);
       };
       sessions = sessions_on script (past x.journal) (past w.journal) s xs y z all p v.number
           (subst (λ (g : Noded). Follows script z (own s (entries g))) (sym v.same) (v.follows (own s (entries (past x.journal))) (all.follow s y p))) (λ n q. ap (λ g. own n (entries g)) v.same);
     }
+      where
+        still : IsStill x.parts w.parts
+        still = still_of script (past x.journal) (number_of y) x.parts w.parts v.parts
 
     rested : r ≡ Ok Stepped.Done → past w.journal ≡ past x.journal → IsAskedOn x w
     rested e q b v = subst (λ (g : Noded). RoseWithin b (store_ask_count (of_part Part.Store (entries g))) w.parts.store.asked) (sym q)

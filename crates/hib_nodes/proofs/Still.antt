@@ -14,7 +14,7 @@ use Rattle.hib_engines.specs.Results.{AreResults}
 use Rattle.hib_nodes_law.specs.Types.{Noded, Nodings}
 use Rattle.hib_nodes_law.specs.Nodes.{entries, of_node}
 use Rattle.hib_nodes.specs.Kept.{past}
-use Rattle.hib_nodes.specs.Standing.{NodesPartsState, AreStanding, IsAtNode, IsStill, node_in}
+use Rattle.hib_nodes.specs.Standing.{NodesPartsState, AreStanding, IsAtNode, IsStepRefused, IsStill, node_in}
 use Rattle.hib_nodes.specs.Queue.{QueuesState, AreQueues, AreWaiting}
 use Rattle.hib_nodes.specs.Run.{IsRun}
 use Rattle.hib_nodes.specs.Shared.{SharedState, IsShared, Leaves}
@@ -72,8 +72,8 @@ pub waiting_same : (q r : QueuesState) → r ≡ q → AreWaiting q r
 waiting_same q r e = subst (λ z. AreWaiting q z) (sym e) (record { first_pairs = refl; first_taken = refl; second_pairs = refl; second_taken = refl })
 
 -- a turn that added nothing, of a session that follows what it followed
-pub leaves_of : (told script : Script) (x w : SharedState) (y z : Session) → told ≡ script → past w.journal ≡ past x.journal → IsStill x.parts w.parts → AreWaiting x.queues w.queues →
-    number_of z ≡ number_of y → ((mine : Journal) → Follows told y mine → Follows told z mine) → Leaves script x w y z
+pub leaves_of : (told script : Script) (x w : SharedState) (y z : Session) → told ≡ script → past w.journal ≡ past x.journal → IsStepRefused script (past x.journal) (number_of y) x.parts w.parts →
+    AreWaiting x.queues w.queues → number_of z ≡ number_of y → ((mine : Journal) → Follows told y mine → Follows told z mine) → Leaves script x w y z
 leaves_of told script x w y z q e s v n f = record {
   same = e;
   parts = s;
@@ -86,7 +86,8 @@ pub leaves_then : (told script : Script) (x v w : SharedState) (y u z : Session)
     Leaves script v w u z → Leaves script x w y z
 leaves_then told script x v w y u z q e p r k l = record {
   same = l.same ∙ e;
-  parts = subst (λ (t : NodesPartsState). IsStill t w.parts) p l.parts;
+  parts = subst (λ (t : NodesPartsState). IsStepRefused script (past x.journal) (number_of y) t w.parts) p
+      (subst (λ (g : Noded). IsStepRefused script g (number_of y) v.parts w.parts) e (subst (λ i. IsStepRefused script (past v.journal) i v.parts w.parts) k.number l.parts));
   queues = subst (λ (t : QueuesState). AreWaiting t w.queues) r l.queues;
   number = l.number ∙ k.number;
   follows = λ mine g. l.follows mine (subst (λ (t : Script). (mine : Journal) → Follows t y mine → Follows t u mine) q k.follows mine g);

@@ -19,7 +19,7 @@ use Rattle.hib_nodes_law.specs.Types.{Noded, Nodings}
 use Rattle.hib_nodes_law.specs.Nodes.{entries}
 use Rattle.hib_nodes_law.specs.Legal.{node_of}
 use Rattle.hib_nodes.specs.Kept.{Kept, past}
-use Rattle.hib_nodes.specs.Standing.{NodesPartsState, IsAskedFor, IsStill, entry_on}
+use Rattle.hib_nodes.specs.Standing.{NodesPartsState, IsAskedFor, IsStepRefused, IsStill, entry_on}
 use Rattle.hib_nodes.specs.Queue.{QueuesState, AreQueues, AreWaiting}
 use Rattle.hib_nodes.specs.Run.{IsRun, HasStepped, IsOver}
 
@@ -50,10 +50,11 @@ pub record Serves (script : Script) (places : Nodings) (from : Origin) (a : Act)
   pub asked : IsAskedFor (past x.journal) (number_of y) a x.parts w.parts
   pub fault : is_fault answer ≡ true → Rose x.parts.store.faults w.parts.store.faults
 
--- nothing was added: all is as before, but for the keeper's counts and room, and the session follows what it followed
+-- nothing was added: all is as before but for room, and for the keeper's counts if the act that was due calls it; the session follows what it
+-- followed
 pub record Leaves (script : Script) (x w : SharedState) (y z : Session) : Type 0 where
   pub same : past w.journal ≡ past x.journal
-  pub parts : IsStill x.parts w.parts
+  pub parts : IsStepRefused script (past x.journal) (number_of y) x.parts w.parts
   pub queues : AreWaiting x.queues w.queues
   pub number : number_of z ≡ number_of y
   pub follows : (mine : Journal) → Follows script y mine → Follows script z mine
@@ -76,7 +77,9 @@ pub record HasTurned (script : Script) (places : Nodings) (from : Origin) (s : �
   pub done : r ≡ Ok Stepped.Done → IsOver script s (past x.journal) (past w.journal)
   pub same : r ≢ Ok Stepped.Did → past w.journal ≡ past x.journal
   pub still : r ≢ Ok Stepped.Did → IsStill x.parts w.parts
+  pub counts : r ≢ Ok Stepped.Did → IsStepRefused script (past x.journal) s x.parts w.parts
   pub asked : OnOk r (IsAskedOn x w)
+  pub asks_once : (e : NodeEntry) → past w.journal ≡ e ∷ past x.journal → IsAskedFor (past x.journal) s e.entry.act x.parts w.parts
   pub fault : (e : NodeEntry) → past w.journal ≡ e ∷ past x.journal → is_fault e.entry.reply ≡ true → Rose x.parts.store.faults w.parts.store.faults
 
 -- the sessions, each as far as its own entries

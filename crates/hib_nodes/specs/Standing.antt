@@ -1,9 +1,10 @@
 -- The parts of a run of two nodes: what they stand for, and what they owe for an act. Each part stands for its own entries alone.
-use Rattle.std.specs.Prelude.{◌≡◌, ◌<◌, ℕ, Bool, true, false, if◌then◌else◌, ◌||◌, ◌==◌, List, [], ◌∷◌, length, Some, Option}
+use Rattle.std.specs.Prelude.{◌≡◌, ◌<◌, ℕ, Bool, true, false, if◌then◌else◌, ◌||◌, ◌==◌, List, [], ◌∷◌, length, Some, None, Option}
 use Rattle.hib_base.specs.Tables.{Tables}
 use Rattle.hib_journal.specs.Types.{Script, Part, Act, Reply, Entry}
 use Rattle.hib_journal.specs.Sessions.{Journal, own}
-use Rattle.hib_journal.specs.Legal.{part_of}
+use Rattle.hib_journal.specs.Legal.{part_of, is_told}
+use Rattle.hib_journal.specs.Next.{next}
 use Rattle.hib_journal.specs.Lists.{entry_at, of_part, unsaved, IsStoreReply}
 use Rattle.hib_journal.specs.Runs.{asks, is_fault}
 use Rattle.hib_outside.specs.Causes.{Rose}
@@ -95,6 +96,22 @@ pub record IsAnswered (script : Script) (told : Option Tables) (h : Noded) (n s 
 abbrev pub IsAskedFor : Noded → ℕ → Act → NodesPartsState → NodesPartsState → Type 0
 IsAskedFor h s a x y =
     RoseWithin x.store.asked (if asks (unsaved s (of_part Part.Store (entries h))) a then 1 else 0) y.store.asked
+
+-- an act of s was refused for want of memory, or its answer is let go. All parts are as before, but for the keeper's counts: it was asked
+-- only if the act asks, and nothing at all has changed if the reply to the act doesn't hang on the committed rows
+pub record IsRefused (h : Noded) (s : ℕ) (a : Act) (x y : NodesPartsState) : Type 0 where
+  pub still : IsStill x y
+  pub asked : IsAskedFor h s a x y
+  pub same : is_told (unsaved s (of_part Part.Store (entries h))) a ≡ false → y ≡ x
+
+-- what is left of the parts if this act was due in session s and was refused, or if none was due
+abbrev pub IsRefusedAt : Noded → ℕ → NodesPartsState → NodesPartsState → Option Act → Type 0
+IsRefusedAt h s x y None = y ≡ x
+IsRefusedAt h s x y (Some a) = IsRefused h s a x y
+
+-- and so by the act that was due, whichever it was
+abbrev pub IsStepRefused : Script → Noded → ℕ → NodesPartsState → NodesPartsState → Type 0
+IsStepRefused script h s x y = IsRefusedAt h s x y (next script s (own s (entries h)))
 
 -- an act of s was answered, with the session's own reply if it has one; the keeper was asked as the act allows, and it failed if
 -- the reply says so

@@ -15,7 +15,7 @@ ghost use Rattle.hib_nodes.specs.Kept.{past};
 ghost use Rattle.hib_nodes.specs.Played.{has_next};
 ghost use Rattle.hib_nodes.specs.Run.{AreSet, HasDelivered, HasStepped, IsAsked, IsAskedOnceMore, IsDelivered, IsOver};
 ghost use Rattle.hib_nodes.specs.Run.{Obeys};
-ghost use Rattle.hib_nodes.specs.Standing.{is_node, IsStill};
+ghost use Rattle.hib_nodes.specs.Standing.{is_node, IsAskedFor, IsStepRefused, IsStill};
 
 use crate::fencing;
 use crate::journal::Noded;
@@ -117,8 +117,10 @@ impl<K: Keeper, N: Name> Nodes<K, N> {
     }
 
     /// One step of a session: the act that is due in it, if one is, at its node. A commit that applies comes into the
-    /// other node's queue in the same step. If memory runs out no entry is added and nothing has changed, but the
-    /// answer of `refused` and the keeper's counts; so a later call may succeed. The session must be the script's.
+    /// other node's queue in the same step. The keeper is asked once at most, and only if the act asks for rows: a hit
+    /// asks it nothing. If memory runs out no entry is added and nothing has changed, but the answer of `refused` and,
+    /// if the act that was due calls the keeper, its counts; so a later call may succeed. The session must be the
+    /// script's.
     pub fn step(&mut self, alloc: Global, number: SessionNo) -> Result<Stepped, AllocError>
         requires known { number < length N.script.sessions }
         ensures did { result ≡ Ok Stepped.Did → HasStepped N.script N.places number
@@ -129,9 +131,13 @@ impl<K: Keeper, N: Name> Nodes<K, N> {
         ensures fault { (e : NodeEntry) → past self.new.journal ≡ e ∷ past self.old.journal
             → is_fault e.entry.reply ≡ true
             → Rose self.old.parts.store.faults self.new.parts.store.faults }
+        ensures asks_once { (e : NodeEntry) → past self.new.journal ≡ e ∷ past self.old.journal
+            → IsAskedFor (past self.old.journal) number e.entry.act self.old.parts self.new.parts }
         ensures going { OnOk result (self.new.refused ≡ self.old.refused) }
         ensures same { OnErr result (past self.new.journal ≡ past self.old.journal) }
         ensures still { OnErr result (IsStill self.old.parts self.new.parts) }
+        ensures counts { OnErr result (IsStepRefused N.script (past self.old.journal) number
+            self.old.parts self.new.parts) }
         ensures asked { OnErr result (self.old.refused ≡ false
             → IsAskedOnceMore N.from (past self.new.journal) self.new.parts) }
         ensures refused { OnErr result (self.new.refused ≡ true) }
@@ -142,8 +148,8 @@ impl<K: Keeper, N: Name> Nodes<K, N> {
     }
 
     /// Delivers the first pair that waits for a node, by a fence of its key: two entries, at this tick and the next
-    /// one. False if and only if none waits; then nothing is done. If memory runs out neither entry is added and
-    /// nothing has changed, but the answer of `refused`.
+    /// one. False if and only if none waits; then nothing is done. The keeper isn't called. If memory runs out neither
+    /// entry is added and nothing has changed, but the answer of `refused`.
     pub fn deliver(&mut self, node: u8) -> Result<bool, AllocError>
         requires node { is_node node ≡ true }
         ensures delivered { result ≡ Ok true
@@ -164,8 +170,8 @@ impl<K: Keeper, N: Name> Nodes<K, N> {
         delivered
     }
 
-    /// One step of a session, for `step`. If memory runs out nothing has changed but the answer of `refused` and the
-    /// keeper's counts.
+    /// One step of a session, for `step`. If memory runs out nothing has changed but the answer of `refused` and, if
+    /// the act that was due calls the keeper, its counts.
     fn take_step(&mut self, alloc: Global, number: SessionNo) -> Result<Stepped, AllocError>
         requires known { number < length N.script.sessions }
         ensures did { result ≡ Ok Stepped.Did → HasStepped N.script N.places number
@@ -175,9 +181,13 @@ impl<K: Keeper, N: Name> Nodes<K, N> {
         ensures fault { (e : NodeEntry) → past self.new.journal ≡ e ∷ past self.old.journal
             → is_fault e.entry.reply ≡ true
             → Rose self.old.parts.store.faults self.new.parts.store.faults }
+        ensures asks_once { (e : NodeEntry) → past self.new.journal ≡ e ∷ past self.old.journal
+            → IsAskedFor (past self.old.journal) number e.entry.act self.old.parts self.new.parts }
         ensures going { OnOk result (self.new.refused ≡ self.old.refused) }
         ensures same { OnErr result (past self.new.journal ≡ past self.old.journal) }
         ensures still { OnErr result (IsStill self.old.parts self.new.parts) }
+        ensures counts { OnErr result (IsStepRefused N.script (past self.old.journal) number
+            self.old.parts self.new.parts) }
         ensures asked { OnErr result (self.old.refused ≡ false
             → IsAsked N.from (past self.old.journal) self.old.parts) }
         ensures refused { OnErr result (self.new.refused ≡ true) }

@@ -21,7 +21,7 @@ ghost use Rattle.hib_engines.specs.Served.{AreWithin, IsServed, reads};
 ghost use Rattle.hib_nodes.specs.Parts.{with_node, IsAlone};
 ghost use Rattle.hib_nodes.specs.Fencing.{IsFencedAt};
 ghost use Rattle.hib_nodes.specs.Standing.{entry_on, is_node, node_in, AreBefore, AreStanding, IsAnswered, IsAskedFor};
-ghost use Rattle.hib_nodes.specs.Standing.{IsReady, IsStill, IsTold};
+ghost use Rattle.hib_nodes.specs.Standing.{IsReady, IsRefused, IsStill, IsTold};
 
 use crate::node::Node;
 use hib_base::{Act, EntityNo, Entry, Key, Part, Reply, Script, SessionNo, Tick};
@@ -159,6 +159,12 @@ impl<K: Keeper> NodesParts<K> {
         ensures faults { self.old.store.faults ≤ self.new.store.faults }
         ensures still { OnOk result (brings act.now ≡ true → IsStill self.old self.new) }
         ensures err { OnErr result (IsStill self.old self.new) }
+        ensures passed { OnOk result (brings act.now ≡ true → (told : Option Tables) (h : Past)
+            → IsReady script.now told h node session now act.now self.old
+            → IsRefused h session act.now self.old self.new) }
+        ensures refused { OnErr result ((told : Option Tables) (h : Past)
+            → IsReady script.now told h node session now act.now self.old
+            → IsRefused h session act.now self.old self.new) }
     {
         match part_of(act, session) {
             Part::Registry => self.begin(node, session, act, now),
@@ -173,7 +179,8 @@ impl<K: Keeper> NodesParts<K> {
 
     /// Answers the act that is due in a session at a node, at this tick, by the session itself or by a part. A fault is
     /// answered only if the keeper failed in this call, and the keeper is asked once at most. At an error the parts are
-    /// as before, but for the keeper's counts. So they are if the act brings something to the session.
+    /// as before, but for the keeper's counts. So they are if the act brings something to the session. The counts stay
+    /// too if the act doesn't call the keeper.
     pub fn answer(
         &mut self,
         alloc: Global,
@@ -194,6 +201,12 @@ impl<K: Keeper> NodesParts<K> {
         ensures faults { self.old.store.faults ≤ self.new.store.faults }
         ensures still { OnOk result (brings act.now ≡ true → IsStill self.old self.new) }
         ensures err { OnErr result (IsStill self.old self.new) }
+        ensures passed { OnOk result (brings act.now ≡ true → (told : Option Tables) (h : Past)
+            → IsReady script.now told h node (number_of session.now) now act.now self.old
+            → IsRefused h (number_of session.now) act.now self.old self.new) }
+        ensures refused { OnErr result ((told : Option Tables) (h : Past)
+            → IsReady script.now told h node (number_of session.now) now act.now self.old
+            → IsRefused h (number_of session.now) act.now self.old self.new) }
     {
         let number = session.number();
         if let Some(reply) = session.reply_to(alloc, script, act)? {

@@ -149,7 +149,7 @@ fn serve<K: Keeper, N: Name>(
 }
 
 /// One act of a session at its node, if one is due. If memory runs out nothing has changed, but for the keeper's
-/// counts.
+/// counts if the act calls it.
 fn take_turn<K: Keeper, N: Name>(
     alloc: Global,
     script: &Script,
@@ -180,7 +180,7 @@ fn take_turn<K: Keeper, N: Name>(
 }
 
 /// One act of the session of this number at its node, if one is due. If memory runs out nothing has changed, but for
-/// the keeper's counts.
+/// the keeper's counts if the act calls it.
 pub fn turn<K: Keeper, N: Name>(
     alloc: Global,
     script: &Script,

@@ -2,7 +2,7 @@
 ghost use Rattle.hib_base.specs.Valid.{is_valid};
 ghost use Rattle.hib_order_stage.specs.Staged.{ended_in, judged_from_start, new_origin, rows_at_start};
 ghost use Rattle.hib_order_tries.specs.Found.{IsTold};
-ghost use Rattle.std.specs.Prelude.{◌≡◌, ◌⊎◌, ◌≤◌, ◌^◌, ◌-◌, [], IfOk, true};
+ghost use Rattle.std.specs.Prelude.{◌≡◌, ◌⊎◌, ◌≤◌, [], IfOk, true};
 
 use crate::stage::Stage;
 use crate::watcher::Watcher;
@@ -41,7 +41,7 @@ fn search_in<N: Name, W: Watcher + Drop>(
     ensures level { IfOk result (λ s. s.told.level ≤ most) }
     ensures limit { IfOk result (λ s. s.told.findings.tried ≤ limit) }
     ensures whole { IfOk result (λ s.
-        (s.told.whole ≡ true) ⊎ (s.told.findings.tried ≡ limit) ⊎ (s.told.played ≡ 2 ^ 64 - 1)) }
+        (s.told.whole ≡ true) ⊎ (s.told.findings.tried ≡ limit)) }
 {
     let mut stage = Stage::<N, W>::new(alloc, script, watcher)?;
     let told = search(alloc, &mut stage, most_kills, most, limit)?;
@@ -53,7 +53,8 @@ fn search_in<N: Name, W: Watcher + Drop>(
 
 /// Tries the orders of a script's sessions within a number of switches and a number of kills, those with the fewest
 /// switches first, and so many of them at most, each by a new factory from the script's rows. Each order is tried once.
-/// The watcher hears of each run that is played. Fails for want of memory alone.
+/// All are tried unless there are more than that. The watcher hears of runs that are played; no clause says of which.
+/// Fails for want of memory alone.
 pub fn search_orders<W: Watcher + Drop>(
     alloc: Global,
     script: Script,
@@ -70,7 +71,7 @@ pub fn search_orders<W: Watcher + Drop>(
     ensures level { IfOk result (λ s. s.told.level ≤ most) }
     ensures limit { IfOk result (λ s. s.told.findings.tried ≤ limit) }
     ensures whole { IfOk result (λ s.
-        (s.told.whole ≡ true) ⊎ (s.told.findings.tried ≡ limit) ⊎ (s.told.played ≡ 2 ^ 64 - 1)) }
+        (s.told.whole ≡ true) ⊎ (s.told.findings.tried ≡ limit)) }
 {
     search_in::<Brand, W>(alloc, script, most_kills, most, limit, watcher)
 }

@@ -6,7 +6,7 @@ ghost use Rattle.std.specs.Prelude.{◌≡◌, [], IfOk, IfSome, true};
 
 use crate::watcher::Watcher;
 use hib_base::{Key, Outcome, Row, Rows, Script, Seq};
-use hib_core::Name;
+use hib_core::{Name, runs_are_short};
 use hib_listeners::Recorder;
 use hib_order_judge::{ending, judge};
 use hib_order_law::{Step, Verdicts};
@@ -23,7 +23,7 @@ pub struct Stage<N: Name, W: Watcher> {
     script: Option<Script>,
     /// The committed rows at the start of each run.
     rows: Rows,
-    /// Who hears of each run.
+    /// Who hears of runs.
     watcher: W,
     /// How many runs were played.
     played: u64,
@@ -92,7 +92,7 @@ fn judge_run(alloc: Global, rows: &Rows, run: &Run) -> Result<Judged, AllocError
 }
 
 impl<N: Name, W: Watcher + Drop> Stage<N, W> {
-    /// A stage for the script of this name. The watcher hears of each run that is played.
+    /// A stage for the script of this name. The watcher hears of runs that are played; no clause says of which.
     pub fn new(alloc: Global, script: Script, watcher: W) -> Result<Stage<N, W>, AllocError>
         requires script { script ≡ N.script }
         requires valid { is_valid N.script ≡ true }
@@ -118,6 +118,7 @@ impl<N: Name, W: Watcher + Drop> Stage<N, W> {
 }
 
 impl<N: Name, W: Watcher + Drop> Player for Stage<N, W> {
+    ghost use Rattle.hib_core.specs.Bound.{most_in};
     ghost use Rattle.hib_order_stage.specs.Staged.{ended_in, judged_from_start, rows_at_start};
 
     ghost script = { N.script };
@@ -128,10 +129,13 @@ impl<N: Name, W: Watcher + Drop> Player for Stage<N, W> {
 
     ghost ended = { ended_in N.script };
 
+    ghost most_steps = { most_in N.script.sessions };
+
     fn play(&mut self, alloc: Global, begun: &[Step]) -> Result<Played, AllocError> {
         let Some(script) = self.script.take() else {
             return Err(AllocError);
         };
+        runs_are_short();
         let nobody: Vec<Recorder> = Vec::new(alloc);
         let run = play_in::<N, Recorder>(alloc, script, nobody, begun)?;
         let Judged { verdicts, ending } = judge_run(alloc, &self.rows, &run)?;

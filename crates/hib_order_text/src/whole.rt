@@ -1,4 +1,4 @@
-// The whole text of a search of orders, which `hib_tools orders` prints. A level is a number of switches.
+// The whole text of a search of orders, which `hib tools orders` prints. A level is a number of switches.
 ghost use Rattle.hib_order_text.specs.Texts.{comma, ending_text, endings_text, findings_text, kills_text, level_text, levels_text, never_text, nevers_text, outcome_text_of, outcomes_text, said_text, text, tried_text};
 ghost use Rattle.hib_order_tries.specs.declared.endings.Ending.{Ending};
 ghost use Rattle.std.specs.Prelude.{◌≡◌, ◌++◌, IfOk, OnOk, flat_map, slice_get};

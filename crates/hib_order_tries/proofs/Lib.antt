@@ -6,5 +6,6 @@ pub mod Besides
 pub mod Counted
 pub mod Ended
 pub mod Counts
-pub mod Waits
+pub mod Unmet
+pub mod Known
 pub mod Turning

@@ -10,10 +10,10 @@ use Rattle.hib_order_tries.specs.Found.{AreFindings, IsFound}
 use Rattle.hib_order_tries.specs.declared.found.Findings.{Findings}
 use Rattle.hib_order_tries.specs.declared.found.Found.{Found}
 
--- some runs were tried, those that a search of which this waits has tried, and the findings are what they have come to
-abbrev pub IsAmid : Script → Tables → (List Entry → Verdicts) → (List Entry → List Outcome) → ℕ → ℕ → ℕ → List (List Step) → Bool → Findings → Type 0
-IsAmid script start judged ended most_kills most level waiting beyond findings =
-    (runs : List (List Entry)) × (seen : List (List Entry)) × IsSearch script start most_kills most level runs seen waiting beyond × AreFindings judged ended runs findings
+-- some runs were tried, those that a search at a level of which this waits has tried, and the findings are what they have come to
+abbrev pub IsAmid : Script → Tables → (List Entry → Verdicts) → (List Entry → List Outcome) → ℕ → ℕ → List (List Step) → Bool → Findings → Type 0
+IsAmid script start judged ended most_kills level waiting beyond findings =
+    (runs : List (List Entry)) × (seen : List (List Entry)) × IsSearch script start most_kills level level runs seen waiting beyond × AreFindings judged ended runs findings
 
 -- what was found of a judgement, with one more run of which it is judged so
 abbrev pub IsJudged : Bool → List Step → Found → Found → Type 0

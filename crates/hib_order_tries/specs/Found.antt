@@ -3,8 +3,8 @@ use Rattle.std.specs.Prelude.{◌≡◌, ◌+◌, ◌<◌, ◌≤◌, ◌==◌, 
 use Rattle.std.specs.List.{Contains}
 use Rattle.hib_base.specs.Tables.{Tables}
 use Rattle.hib_journal.specs.Types.{Script, Entry, Outcome}
-use Rattle.hib_order_law.specs.Orders.{IsRun, begins, is_unkilled, kills, steps_in, switches, turns_in}
-use Rattle.hib_order_law.specs.Search.{AreTried}
+use Rattle.hib_order_law.specs.Orders.{IsRun, IsWithin, begins, is_unkilled, kills, steps_in, switches, turns_in}
+use Rattle.hib_order_law.specs.Search.{AreTried, times}
 use Rattle.hib_order_law.specs.declared.step.Step.{Step}
 use Rattle.hib_order_law.specs.declared.step.Turn.{Turn}
 use Rattle.hib_order_law.specs.declared.verdicts.Verdicts.{Verdicts}
@@ -61,11 +61,19 @@ pub record AreFindings (judged : List Entry → Verdicts) (ended : List Entry �
   pub refused_commit : IsFound (λ es. (judged es).refused_commit) runs findings.refused_commit
   pub unsound_key : IsFound (λ es. (judged es).unsound_key) runs findings.unsound_key
 
+-- the runs with the fewest switches come first: none of those that were tried makes more than `level`, and if not all within the bounds were
+-- tried, then one within them that makes just as many was left out
+pub record AreFewest (script : Script) (start : Tables) (most_kills most : ℕ) (whole : Bool) (level : ℕ) (runs : List (List Entry)) : Type 0 where
+  pub few : (es : List Entry) → Contains runs es → switches (steps_in es) ≤ level
+  pub cut : whole ≡ false →
+      (es : List Entry) × IsWithin script start most_kills most es × (switches (steps_in es) ≡ level) × (times (steps_in es) runs ≡ 0)
+
 -- what a search tells: of some runs within the bounds, each once, what they have come to. All within the bounds are among them if it says so,
--- and else all with fewer switches than a number
+-- and else all with fewer switches than a number, and none with more
 abbrev pub IsTold : Script → Tables → (List Entry → Verdicts) → (List Entry → List Outcome) → ℕ → ℕ → Bool → ℕ → Findings → Type 0
 IsTold script start judged ended most_kills most whole level findings =
     (runs : List (List Entry)) × AreTried script start most_kills most (if whole then most + 1 else level) runs × AreFindings judged ended runs findings
+    × AreFewest script start most_kills most whole level runs
 
 -- nothing was counted more often than orders were tried
 pub record AreCounted (findings : Findings) : Type 0 where

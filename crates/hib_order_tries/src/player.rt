@@ -3,9 +3,9 @@ ghost use Rattle.hib_base.specs.Tables.{Tables};
 ghost use Rattle.hib_base.specs.declared.entries.Entry.{Entry};
 ghost use Rattle.hib_base.specs.declared.replies.Outcome.{Outcome};
 ghost use Rattle.hib_base.specs.declared.scripts.Script.{Script};
-ghost use Rattle.hib_order_law.specs.Orders.{can_begin};
+ghost use Rattle.hib_order_law.specs.Orders.{can_begin, kills};
 ghost use Rattle.hib_order_tries.specs.Found.{IsPlayed};
-ghost use Rattle.std.specs.Prelude.{◌≡◌, List, [], IfOk, true};
+ghost use Rattle.std.specs.Prelude.{◌≡◌, ◌≤◌, ◌+◌, ℕ, List, [], IfOk, length, true};
 
 use hib_base::Outcome;
 use hib_order_law::{Step, Turn, Verdicts};
@@ -40,11 +40,15 @@ pub trait Player {
     /// How each session of a run has ended.
     ghost ended: { List Entry → List Outcome };
 
+    /// How many steps a run has at most, beside its kills.
+    ghost most_steps: { ℕ };
+
     /// Plays a run that begins with these steps, to the end of each session that isn't killed; after these steps none
     /// is killed. Each of the steps may come at its turn. Want of memory is the only error. After it the player may
     /// answer want of memory for ever; a run that it does play is played as if this one had not been asked for.
     fn play(&mut self, alloc: Global, begun: &[Step]) -> Result<Played, AllocError>
         requires { can_begin script start [] begun.now ≡ true }
-        ensures { IfOk result (λ p. IsPlayed script start judged ended begun.now p.order.items
-            p.turns.items p.verdicts p.ending.items) };
+        ensures played { IfOk result (λ p. IsPlayed script start judged ended begun.now p.order.items
+            p.turns.items p.verdicts p.ending.items) }
+        ensures short { IfOk result (λ p. length p.order.items ≤ most_steps + kills begun.now) };
 }

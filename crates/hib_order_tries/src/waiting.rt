@@ -1,12 +1,8 @@
 // The first steps that wait to be tried: a run is played that begins with them.
-ghost use Rattle.hib_base.specs.Tables.{Tables};
-ghost use Rattle.hib_base.specs.declared.entries.Entry.{Entry};
-ghost use Rattle.hib_base.specs.declared.scripts.Script.{Script};
-ghost use Rattle.hib_order_law.specs.Orders.{kills, switches};
-ghost use Rattle.hib_order_law.specs.Search.{AreTried, IsSearch};
+ghost use Rattle.hib_order_law.specs.Orders.{switches};
 ghost use Rattle.hib_order_tries.specs.Left.{IsTurned};
-ghost use Rattle.std.specs.Prelude.{◌≡◌, ◌∷◌, ◌++◌, ◌+◌, ◌≤◌, ◌^◌, ◌<◌, ℕ, List, [], IfNone, IfOk, IfSome, OnOk};
-ghost use Rattle.std.specs.Prelude.{length, map, false};
+ghost use Rattle.std.specs.Prelude.{◌≡◌, ◌∷◌, ◌++◌, ◌+◌, ◌≤◌, ◌<◌, ◌⊎◌, [], IfNone, IfOk, IfSome, OnOk};
+ghost use Rattle.std.specs.Prelude.{false, length, map, true};
 
 use crate::beside::others;
 use crate::openings::may_kill;
@@ -40,32 +36,37 @@ impl Untried {
         })
     }
 
-    /// Takes one. If none waits, then the beginning of all orders comes again, for those that make one more switch; and
-    /// none if no order makes as many as that, or none may.
-    pub fn next(&mut self, alloc: Global, most: usize) -> Option<Vec<Step>>
-        ensures level { self.old.level ≤ most → self.new.level ≤ most }
-        ensures some { IfSome result (λ b. (script : Script) (start : Tables) (most_kills : ℕ)
-            (runs seen : List (List Entry))
-            → IsSearch script start most_kills most self.old.level runs seen
-            (map (λ v. v.items) self.old.now.items) self.old.beyond
-            → (seen' : List (List Entry))
-            × IsSearch script start most_kills most self.new.level runs seen'
-            (map (λ v. v.items) self.new.now.items ++ b.items ∷ []) self.new.beyond) }
-        ensures none { IfNone result ((script : Script) (start : Tables) (most_kills : ℕ)
-            (runs seen : List (List Entry))
-            → IsSearch script start most_kills most self.old.level runs seen
-            (map (λ v. v.items) self.old.now.items) self.old.beyond
-            → AreTried script start most_kills most (most + 1) runs) }
+    /// Takes one.
+    pub fn next(&mut self) -> Option<Vec<Step>>
+        ensures level { self.new.level ≡ self.old.level }
+        ensures beyond { self.new.beyond ≡ self.old.beyond }
+        ensures some { IfSome result (λ b. map (λ v. v.items) self.old.now.items
+            ≡ map (λ v. v.items) self.new.now.items ++ b.items ∷ []) }
+        ensures none { IfNone result ((map (λ v. v.items) self.old.now.items ≡ [])
+            × (map (λ v. v.items) self.new.now.items ≡ [])) }
     {
-        if let Some(begun) = self.now.pop() {
-            return Some(begun);
-        }
+        self.now.pop()
+    }
+
+    /// After none waits: the beginning of all orders comes again, for those that make one more switch. False if no
+    /// order makes as many as that, or none may: then nothing has changed.
+    pub fn rise(&mut self, alloc: Global, most: usize) -> Result<bool, AllocError>
+        ensures over { IfOk result (λ risen. risen ≡ false → (self.new ≡ self.old)
+            × ((self.old.beyond ≡ false) ⊎ (most ≤ self.old.level))) }
+        ensures low { IfOk result (λ risen. risen ≡ true → self.old.level < most) }
+        ensures level { IfOk result (λ risen. risen ≡ true → self.new.level ≡ self.old.level + 1) }
+        ensures now { IfOk result (λ risen. risen ≡ true
+            → map (λ v. v.items) self.new.now.items
+            ≡ map (λ v. v.items) self.old.now.items ++ [] ∷ []) }
+        ensures beyond { IfOk result (λ risen. risen ≡ true → self.new.beyond ≡ false) }
+    {
         if !self.beyond || self.level >= most {
-            return None;
+            return Ok(false);
         }
+        self.now.push(Vec::new(alloc))?;
         self.level += 1;
         self.beyond = false;
-        Some(Vec::new(alloc))
+        Ok(true)
     }
 
     /// After a run was played whose first `from` steps were taken from here, and which kills no session after them:

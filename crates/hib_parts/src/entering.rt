@@ -15,6 +15,41 @@ use hib_engines::Name;
 use hib_journal::Journal;
 use std::alloc::{AllocError, Global};
 
+/// The act that is due, twice: for the list of its part, and for that of its session.
+pub struct Acts {
+    /// The act.
+    pub act: Act,
+    /// The same act.
+    pub twin: Act,
+}
+
+// By hand: so a function that lets the two go has one call for them.
+impl Drop for Acts {
+    fn drop(self) {
+        let Acts { act: _, twin: _ } = self;
+    }
+}
+
+impl Acts {
+    /// The two acts, each by itself.
+    fn both(self) -> (Act, Act)
+        ensures act { result.0 ≡ self.act }
+        ensures twin { result.1 ≡ self.twin }
+    {
+        let Acts { act, twin } = self;
+        (act, twin)
+    }
+}
+
+/// An act twice.
+fn twice(alloc: Global, act: Act) -> Result<Acts, AllocError>
+    ensures act { IfOk result (λ t. t.act ≡ act) }
+    ensures twin { IfOk result (λ t. t.twin ≡ t.act) }
+{
+    let twin = act.copy(alloc)?;
+    Ok(Acts { act, twin })
+}
+
 /// The act that is due, twice: once for each list. An act must be due. Room is made in both lists for its entry, and
 /// the session is made ready for it. What the lists have stays.
 pub fn prepared<N: Name>(
@@ -22,23 +57,23 @@ pub fn prepared<N: Name>(
     script: &Script,
     worker: &mut Worker<N>,
     list: &mut Journal,
-) -> Result<(Act, Act), AllocError>
+) -> Result<Acts, AllocError>
     requires script { script.now ≡ N.script }
     requires due { IsSome (next N.script worker.old.number worker.old.list) }
     ensures kept { IsKept worker.old worker.new }
     ensures left { worker.new.left ≤ worker.old.left }
     ensures list { past list.new ≡ past list.old }
-    ensures due { IfOk result (λ t. IsDueAct N.script worker.old t.0) }
-    ensures twin { IfOk result (λ t. t.1 ≡ t.0) }
+    ensures due { IfOk result (λ t. IsDueAct N.script worker.old t.act) }
+    ensures twin { IfOk result (λ t. t.twin ≡ t.act) }
     ensures ready { OnOk result (worker.new.ready ≡ true) }
     ensures room { OnOk result (0 < list.new.spare) }
     ensures own_room { OnOk result (0 < worker.new.spare) }
 {
     list.reserve()?;
     let act = worker.due(alloc, script)?;
-    let twin = act.copy(alloc)?;
+    let acts = twice(alloc, act)?;
     worker.ready(alloc, script)?;
-    Ok((act, twin))
+    Ok(acts)
 }
 
 /// Adds the entry of the act that is due to both lists, or to neither. Both must have room for it. It answers Ok if the
@@ -48,29 +83,29 @@ pub fn enter_both<N: Name>(
     script: &Script,
     worker: &mut Worker<N>,
     list: &mut Journal,
-    acts: (Act, Act),
+    acts: Acts,
     replies: (Reply, Reply),
     now: Tick,
 ) -> Result<(), AllocError>
     requires script { script.now ≡ N.script }
     requires room { 0 < list.old.spare }
     requires own_room { 0 < worker.old.spare }
-    requires acts { acts.1 ≡ acts.0 }
+    requires acts { acts.twin ≡ acts.act }
     requires replies { replies.1 ≡ replies.0 }
     requires due { IsDueEntry N.script worker.old.number worker.old.list
-        (entry_at now (Some worker.old.number) acts.0 replies.0) }
+        (entry_at now (Some worker.old.number) acts.act replies.0) }
     ensures number { worker.new.number ≡ worker.old.number }
     ensures mine { OnOk result (worker.new.list
-        ≡ entry_at now (Some worker.old.number) acts.0 replies.0 ∷ worker.old.list) }
+        ≡ entry_at now (Some worker.old.number) acts.act replies.0 ∷ worker.old.list) }
     ensures list { OnOk result (past list.new
-        ≡ entry_at now (Some worker.old.number) acts.0 replies.0 ∷ past list.old) }
+        ≡ entry_at now (Some worker.old.number) acts.act replies.0 ∷ past list.old) }
     ensures less { OnOk result (worker.new.left < worker.old.left) }
     ensures kept { OnErr result (IsKept worker.old worker.new) }
     ensures same { OnErr result (past list.new ≡ past list.old) }
-    ensures brings { worker.old.ready ≡ true → brings acts.0 ≡ false → IsOk result }
+    ensures brings { worker.old.ready ≡ true → brings acts.act ≡ false → IsOk result }
 {
     let number = worker.number();
-    let (act, twin) = acts;
+    let (act, twin) = acts.both();
     let (reply, spare) = replies;
     worker.enter(alloc, script, entry_of(number, act, reply, now))?;
     add(list, entry_of(number, twin, spare, now));
@@ -85,25 +120,25 @@ pub fn enter_answer<N: Name>(
     script: &Script,
     worker: &mut Worker<N>,
     list: &mut Journal,
-    acts: (Act, Act),
+    acts: Acts,
     reply: Reply,
     now: Tick,
 ) -> Result<(), AllocError>
     requires script { script.now ≡ N.script }
     requires room { 0 < list.old.spare }
     requires own_room { 0 < worker.old.spare }
-    requires acts { acts.1 ≡ acts.0 }
+    requires acts { acts.twin ≡ acts.act }
     requires due { IsDueEntry N.script worker.old.number worker.old.list
-        (entry_at now (Some worker.old.number) acts.0 reply) }
+        (entry_at now (Some worker.old.number) acts.act reply) }
     ensures number { worker.new.number ≡ worker.old.number }
     ensures mine { OnOk result (worker.new.list
-        ≡ entry_at now (Some worker.old.number) acts.0 reply ∷ worker.old.list) }
+        ≡ entry_at now (Some worker.old.number) acts.act reply ∷ worker.old.list) }
     ensures list { OnOk result (past list.new
-        ≡ entry_at now (Some worker.old.number) acts.0 reply ∷ past list.old) }
+        ≡ entry_at now (Some worker.old.number) acts.act reply ∷ past list.old) }
     ensures less { OnOk result (worker.new.left < worker.old.left) }
     ensures kept { OnErr result (IsKept worker.old worker.new) }
     ensures same { OnErr result (past list.new ≡ past list.old) }
-    ensures brings { worker.old.ready ≡ true → is_small reply ≡ true → brings acts.0 ≡ false
+    ensures brings { worker.old.ready ≡ true → is_small reply ≡ true → brings acts.act ≡ false
         → IsOk result }
 {
     let twin = copied(alloc, &reply)?;

@@ -105,7 +105,7 @@ impl<N: Name> RegionPart<N> {
         ensures same { OnErr result (self.new ≡ self.old) }
     {
         let acts = prepared(alloc, script, worker, &mut self.list)?;
-        let reply = self.region.serve(alloc, &acts.0, now)?;
+        let reply = self.region.serve(alloc, &acts.act, now)?;
         enter_answer(alloc, script, worker, &mut self.list, acts, reply, now)?;
         self.last = now;
         Ok(())

@@ -157,7 +157,7 @@ impl<N: Name> RegistryPart<N> {
     {
         let number = worker.number();
         let acts = prepared(alloc, script, worker, &mut self.list)?;
-        let reply = self.registry.serve(number, &acts.0, now)?;
+        let reply = self.registry.serve(number, &acts.act, now)?;
         enter_answer(alloc, script, worker, &mut self.list, acts, reply, now)?;
         self.last = now;
         Ok(())

@@ -189,7 +189,7 @@ impl<N: Name> ResultsPart<N> {
         ensures same { OnErr result (self.new ≡ self.old) }
     {
         let acts = prepared(alloc, script, worker, &mut self.list)?;
-        let replies = answer_twice(alloc, &mut self.results, &acts.0)?;
+        let replies = answer_twice(alloc, &mut self.results, &acts.act)?;
         enter_both(alloc, script, worker, &mut self.list, acts, replies, now)?;
         self.last = now;
         Ok(())

@@ -91,7 +91,7 @@ impl<N: Name> StampsPart<N> {
         ensures same { OnErr result (self.new ≡ self.old) }
     {
         let acts = prepared(alloc, script, worker, &mut self.list)?;
-        let reply = self.stamps.serve(alloc, script, &acts.0, now)?;
+        let reply = self.stamps.serve(alloc, script, &acts.act, now)?;
         enter_answer(alloc, script, worker, &mut self.list, acts, reply, now)?;
         self.last = now;
         Ok(())

@@ -121,12 +121,12 @@ fn serve_store<K: Keeper, N: Name>(
 {
     let acts = prepared(alloc, script, worker, list)?;
     let number = worker.number();
-    if let Some(replies) = taken(store, unchanged, number, &acts.0, found) {
+    if let Some(replies) = taken(store, unchanged, number, &acts.act, found) {
         enter_both(alloc, script, worker, list, acts, replies, now)?;
         return Ok(false);
     }
-    let changed = store.may_change_rows(number, &acts.0);
-    let reply = store.serve(alloc, script, number, &acts.0)?;
+    let changed = store.may_change_rows(number, &acts.act);
+    let reply = store.serve(alloc, script, number, &acts.act)?;
     enter_answer(alloc, script, worker, list, acts, reply, now)?;
     Ok(changed)
 }

@@ -1,7 +1,7 @@
 // Scripts over SQLite. `./hib` puts a few lines in the place of this file for a trial, which then needs no SQLite.
+use crate::streams::serve_over;
 use hib_call::Status;
 use hib_keeper_sqlite::{SqliteKeeper, in_memory, open_file};
-use hib_shell::call;
 use hib_words::Command;
 use sqlite::{File, FileStore};
 use std::sync::Wait;
@@ -17,7 +17,7 @@ pub fn serve_file<R: Threads + Wait + Sync>(
 ) -> Status {
     if path == ":memory:" {
         return match in_memory(host.alloc()) {
-            Ok(keeper) => call(rt, host, words, command, keeper).0,
+            Ok(keeper) => serve_over(rt, host, words, command, keeper).0,
             Err(_) => Status::NoMemory,
         };
     }
@@ -36,7 +36,7 @@ fn over_file<R: Threads + Wait + Sync>(
     command: &Option<Command>,
     keeper: SqliteKeeper<FileStore<File>>,
 ) -> Status {
-    let (status, keeper) = call(rt, host, words, command, keeper);
+    let (status, keeper) = serve_over(rt, host, words, command, keeper);
     if let Some(connection) = keeper.into_connection() {
         let _ = connection.close();
     }

@@ -143,6 +143,6 @@ text_valid text s h = by_lines (lex_of text) refl h
     by_lines (Err x) e g = absurd (cc)
     by_lines (Ok l) e g = read_valid 0 text l (Ok s) e g
 
-pub valid_if : (text : List ℕ) (r : Result Script ScriptError) (o : Result Outline Refused) → o ≡ script_of text → IfOk r (λ s. o ≡ Ok (outline_of s)) → IfOk r (λ s. is_valid s ≡ true)
-valid_if text (Ok s) o e h = text_valid text s (sym e ∙ h)
-valid_if text (Err x) o e h = h
+pub valid_if : (text : List ℕ) (r : Result Script ScriptError) → IfOk r (λ s. script_of text ≡ Ok (outline_of s)) → IfOk r (λ s. is_valid s ≡ true)
+valid_if text (Ok s) h = text_valid text s h
+valid_if text (Err x) h = h

@@ -1,6 +1,7 @@
 // A script as far as it was read.
 ghost use Rattle.hib_script.specs.Drafts.{reader_of};
 ghost use Rattle.hib_script.specs.Lines as lines;
+ghost use Rattle.hib_script.specs.Outline.{outline_of};
 ghost use Rattle.hib_script.specs.Script as order;
 ghost use Rattle.std.specs.Prelude.{◌≡◌, OnOk, nat_lt};
 
@@ -8,6 +9,7 @@ use crate::places::{Part, Place};
 use hib_base::{EntityDef, Script, Seq};
 use hib_statements::{Given, NamedSessions};
 use std::alloc::{AllocError, Global};
+use std::mem::replace;
 
 /// A script as far as it was read.
 #[derive(Drop)]
@@ -70,6 +72,21 @@ pub fn close(draft: &mut Draft) -> Result<(), AllocError>
         Some(entity) => draft.script.mapping.push(entity),
         None => Ok(()),
     }
+}
+
+/// Takes the script out of a draft, with the rows and the sessions, and leaves a new draft.
+pub fn take_script(alloc: Global, draft: &mut Draft) -> Script
+    ensures { outline_of result ≡ (reader_of draft.old).outline }
+{
+    let Draft {
+        mut script,
+        rows,
+        sessions,
+        ..
+    } = replace(draft, start(alloc));
+    script.rows = rows.into_rows();
+    script.sessions = sessions.into_sessions();
+    script
 }
 
 /// Whether one more may come beside `count`, if `most` are the limit.

@@ -10,7 +10,7 @@ ghost use Rattle.hib_script.specs.Script as order;
 ghost use Rattle.hib_script.specs.declared.errors.ScriptError.TheVariants.{NoMemory};
 ghost use Rattle.std.specs.Prelude.{◌≡◌, ◌∷◌, [], ◌+◌, ◌^◌, ◌<◌, ℕ, List, length, drop, ◌⊎◌, IfOk, IfErr, OnOk, Ok, Err, Some, true};
 
-use crate::drafts::{Draft, close, start};
+use crate::drafts::{Draft, close, start, take_script};
 use crate::errors::{LineError, ScriptError};
 use crate::lines::after_line;
 use crate::places::Place;
@@ -32,8 +32,18 @@ pub fn read(alloc: Global, text: &[u8]) -> Result<Script, ScriptError>
     ensures refused { IfErr result (order.IsWhere (order.script_of text.now)) }
 {
     let mut draft = start(alloc);
-    match read_text(alloc, &mut draft, text) {
-        Ok(count) => ended(count, draft),
+    script_of_text(alloc, &mut draft, text)
+}
+
+/// Reads a text into a draft, which must be new, and gives the script that it is, as `read` says.
+fn script_of_text(alloc: Global, draft: &mut Draft, text: &[u8]) -> Result<Script, ScriptError>
+    requires small { length text.now < 2 ^ 31 }
+    requires new { reader_of draft.old ≡ order.start }
+    ensures script { IfOk result (λ s. order.script_of text.now ≡ Ok (outline_of s)) }
+    ensures refused { IfErr result (order.IsWhere (order.script_of text.now)) }
+{
+    match read_text(alloc, draft, text) {
+        Ok(count) => ended(alloc, count, draft),
         Err(error) => Err(error),
     }
 }
@@ -194,24 +204,34 @@ fn script_said(alloc: Global, lines: &Lines) -> Result<Script, ScriptError>
     ensures script { IfOk result (λ s. order.script_in (Ok lines.now) ≡ Ok (outline_of s)) }
     ensures refused { IfErr result (order.IsWhere (order.script_in (Ok lines.now))) }
 {
-    match read_draft(alloc, lines.lines.as_slice()) {
-        Ok(draft) => ended(lines.count, draft),
-        Err(ScriptError::Refused(refused)) => Err(ScriptError::Refused(refused)),
-        Err(ScriptError::NoMemory) => Err(ScriptError::NoMemory),
+    let mut draft = start(alloc);
+    script_of_lines(alloc, &mut draft, lines)
+}
+
+/// Takes all lines into a draft, which must be new, and gives the script that they say.
+fn script_of_lines(alloc: Global, draft: &mut Draft, lines: &Lines) -> Result<Script, ScriptError>
+    requires { reader_of draft.old ≡ order.start }
+    ensures script { IfOk result (λ s. order.script_in (Ok lines.now) ≡ Ok (outline_of s)) }
+    ensures refused { IfErr result (order.IsWhere (order.script_in (Ok lines.now))) }
+{
+    match take_lines(alloc, draft, lines.lines.as_slice()) {
+        Ok(()) => ended(alloc, lines.count, draft),
+        Err(error) => Err(error),
     }
 }
 
-/// The draft after all lines.
+/// Takes all lines into a draft.
 #[tactic(auto, using(crate::proofs::Scan::reading_done, crate::proofs::Scan::reading_next, crate::proofs::Scan::where_on))]
-fn read_draft(alloc: Global, lines: &[Line]) -> Result<Draft, ScriptError>
-    ensures draft { IfOk result (λ d. order.reading (Ok order.start) lines.now ≡ Ok (reader_of d)) }
-    ensures refused { IfErr result (order.IsWhere (order.reading (Ok order.start) lines.now)) }
+fn take_lines(alloc: Global, draft: &mut Draft, lines: &[Line]) -> Result<(), ScriptError>
+    ensures read { OnOk result (order.reading (Ok (reader_of draft.old)) lines.now
+        ≡ Ok (reader_of draft.new)) }
+    ensures refused { IfErr result
+        (order.IsWhere (order.reading (Ok (reader_of draft.old)) lines.now)) }
 {
-    let mut draft = start(alloc);
     for i in 0..lines.len() {
-        step(alloc, &mut draft, is_column_next(lines, i), &lines[i])?;
+        step(alloc, draft, is_column_next(lines, i), &lines[i])?;
     }
-    Ok(draft)
+    Ok(())
 }
 
 /// Whether the line after this one is a column's.
@@ -237,34 +257,27 @@ fn step(alloc: Global, draft: &mut Draft, followed: bool, line: &Line) -> Result
     }
 }
 
-/// The script of a draft at the end of a text of `count` lines, or why the text can't end there.
-fn ended(count: u32, draft: Draft) -> Result<Script, ScriptError>
-    ensures script { IfOk result (λ s. order.ended_at count (reader_of draft) draft.place
+/// The script of a draft at the end of a text of `count` lines, or why the text can't end there. It is taken out of the
+/// draft.
+fn ended(alloc: Global, count: u32, draft: &mut Draft) -> Result<Script, ScriptError>
+    ensures script { IfOk result (λ s. order.ended_at count (reader_of draft.old) draft.old.place
         ≡ Ok (outline_of s)) }
     ensures refused { IfErr result
-        (order.IsWhere (order.ended_at count (reader_of draft) draft.place)) }
+        (order.IsWhere (order.ended_at count (reader_of draft.old) draft.old.place)) }
 {
     match draft.place {
         Place::Start => Err(refused(1, Kind::Header)),
-        Place::Behind(_) => Ok(finished(draft)?),
+        Place::Behind(_) => Ok(finished(alloc, draft)?),
         Place::Session(_) | Place::Schedule => Err(unfinished(count)),
     }
 }
 
-/// The script of a draft.
-fn finished(mut draft: Draft) -> Result<Script, AllocError>
-    ensures { IfOk result (λ s. outline_of s ≡ order.finished (reader_of draft)) }
+/// Takes the script out of a draft, with its last entity.
+fn finished(alloc: Global, draft: &mut Draft) -> Result<Script, AllocError>
+    ensures { IfOk result (λ s. outline_of s ≡ order.finished (reader_of draft.old)) }
 {
-    close(&mut draft)?;
-    let Draft {
-        mut script,
-        rows,
-        sessions,
-        ..
-    } = draft;
-    script.rows = rows.into_rows();
-    script.sessions = sessions.into_sessions();
-    Ok(script)
+    close(draft)?;
+    Ok(take_script(alloc, draft))
 }
 
 /// What is said of a text of `count` lines that ends within a session or a schedule.

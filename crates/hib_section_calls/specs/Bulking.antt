@@ -17,7 +17,7 @@ use Rattle.hib_sections.specs.Bulks.{bulks_of}
 use Rattle.hib_call.specs.declared.status.Status.{Status}
 use Rattle.hib_call.specs.Command.{Command}
 use Rattle.hib_call.specs.Limits.{max_script}
-use Rattle.hib_call.specs.Ends.{IsWritten}
+use Rattle.hib_call.specs.Ends.{IsTextTold}
 use Rattle.hib_call.specs.Outside.{Shared}
 use Rattle.hib_section_calls.specs.declared.bulk.Bulking.{Bulking}
 use Rattle.hib_section_calls.specs.declared.bulk.BulkRun.{BulkRun}
@@ -72,5 +72,5 @@ bulking = record {
   has_form = λ text. (said : Said) × (bulking_of text ≡ Ok said);
   leaves = Leaves;
   stops = Stops;
-  tells = λ run answer taken written. IsWritten answer (bulked_text run.script run.bulks.lines run.journal.list) taken written;
+  tells = λ run answer taken written. IsTextTold answer (bulked_text run.script run.bulks.lines run.journal.list) taken written;
 }

@@ -18,7 +18,7 @@ use Rattle.hib_sections.specs.Collections.{collections_of}
 use Rattle.hib_call.specs.declared.status.Status.{Status}
 use Rattle.hib_call.specs.Command.{Command}
 use Rattle.hib_call.specs.Limits.{max_script}
-use Rattle.hib_call.specs.Ends.{IsWritten}
+use Rattle.hib_call.specs.Ends.{IsTextTold}
 use Rattle.hib_call.specs.Outside.{Shared}
 use Rattle.hib_section_calls.specs.declared.collect.Gathering.{Gathering}
 use Rattle.hib_section_calls.specs.declared.collect.Collected.{Collected}
@@ -70,5 +70,5 @@ collecting = record {
   has_form = λ text. (said : Outline × List Def) × (gathering_of text ≡ Ok said);
   leaves = Leaves;
   stops = Stops;
-  tells = λ run answer taken written. IsWritten answer (gathered_text run.script run.defs run.journal.list) taken written;
+  tells = λ run answer taken written. IsTextTold answer (gathered_text run.script run.defs run.journal.list) taken written;
 }

@@ -18,7 +18,7 @@ use Rattle.hib_sections.specs.Places.{places_of}
 use Rattle.hib_call.specs.declared.status.Status.{Status}
 use Rattle.hib_call.specs.Command.{Command}
 use Rattle.hib_call.specs.Limits.{max_script}
-use Rattle.hib_call.specs.Ends.{IsWritten}
+use Rattle.hib_call.specs.Ends.{IsTextTold}
 use Rattle.hib_call.specs.Outside.{Shared}
 use Rattle.hib_section_calls.specs.declared.nodes.Placing.{Placing}
 use Rattle.hib_section_calls.specs.declared.nodes.NodeRun.{NodeRun}
@@ -74,5 +74,5 @@ placing = record {
   has_form = λ text. (said : Said) × (placing_of text ≡ Ok said);
   leaves = Leaves;
   stops = Stops;
-  tells = λ run answer taken written. IsWritten answer (noded_text run.script run.journal.list) taken written;
+  tells = λ run answer taken written. IsTextTold answer (noded_text run.script run.journal.list) taken written;
 }

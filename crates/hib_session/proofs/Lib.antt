@@ -8,6 +8,7 @@ pub mod Flushed
 pub mod Refused
 pub mod Taken
 pub mod Taking
+pub mod Grows
 pub mod Once
 pub mod Still
 pub mod Few

@@ -1,18 +1,19 @@
 -- A control that takes a step stands for what is left.
 use Rattle.std.specs.Option.{option_map_or}
-use Rattle.std.proofs.Common.{◌≡◌, ℕ, ◌+◌, Bool, true, false, cond, List, [], ◌∷◌, drop, slice_get, Some, None, Option, refl, ap, sym, ◌∙◌}
+use Rattle.std.proofs.Common.{◌≡◌, ℕ, zero, suc, ◌+◌, ◌≤◌, Bool, true, false, cond, List, [], ◌∷◌, ◌++◌, length, drop, slice_get, Some, None, Option, refl, ap, sym, ◌∙◌, arith}
 use Rattle.std.proofs.lemmas.Bool.{true≢false, false≢true}
+use Rattle.std.proofs.lemmas.List.{append-nil}
 use Rattle.hib_journal.specs.Types.{Mode, Statement, Script, Act, Entry}
 use Rattle.hib_journal.specs.Sessions.{Journal}
 use Rattle.hib_journal.specs.Held.{pending}
-use Rattle.hib_journal.specs.Plan.{Plan, after, first_act}
-use Rattle.hib_journal.specs.Next.{block, blocks, list, is_in_tables, tables_of, flush_of, mode_after, ends, mode_reads, is_free, look, list_store, next}
+use Rattle.hib_journal.specs.Plan.{Plan, after, left_of, first_act}
+use Rattle.hib_journal.specs.Next.{block, blocks, list, is_in_tables, tables_of, flush_of, mode_after, ends, mode_reads, is_free, look, list_store, plan_of, next}
 use Rattle.hib_session.specs.declared.control.Stage.{Stage}
 use Rattle.hib_session.specs.declared.control.Control.{Control}
 use Rattle.hib_session.specs.declared.written.Written.{Written}
 use Rattle.hib_session.specs.Memory.{Fits}
 use Rattle.hib_session.specs.Ahead.{Copies}
-use Rattle.hib_session.specs.Control.{staged, queued, untaken, settles, is_settled, is_over_at, decided, is_answering, is_due, is_resting, act_at, act_staged, begin_at, plan_at, Stands}
+use Rattle.hib_session.specs.Control.{staged, queued, untaken, settles, is_settled, is_over, is_over_at, decided, is_answering, is_due, is_resting, act_at, act_staged, begin_at, plan_at, Stands}
 
 pub flush_taken : (script : Script) (st : Statement) (acts : List Act) (mode : Mode) (done : Journal) (go : Journal → Plan) →
     st ≡ Statement.Flush → acts ≡ flush_of script done (pending done) →
@@ -28,22 +29,31 @@ pub list_flushed : (script : Script) (acts : List Act) (q : ℕ) (mode : Mode) (
     is_in_tables (tables_of script q) (pending done) ≡ true → queued script mode acts (Stage.Answering q) done go ≡ list script mode q done go
 list_flushed script acts q mode done go p t = rw (p, t) refl
 
+-- a statement that is left stands within the list
+within : (xs : List Statement) (n : ℕ) (st : Statement) (ss : List Statement) → drop n xs ≡ st ∷ ss → n + 1 ≤ length xs
+within [] zero st ss p = absurd (cc)
+within [] (suc n) st ss p = absurd (cc)
+within (x ∷ xs) zero st ss p = omega (arith)
+within (x ∷ xs) (suc n) st ss p = let h : n + 1 ≤ length xs = within xs n st ss p in omega (arith, h)
+
 -- it takes a statement
 pub takes : (script : Script) (c : Control) (done : Journal) (st : Statement) (acts : List Act) (stage : Stage) (m : Mode) (b : Bool) → Stands script c done →
     c.queue ≡ [] → c.stage ≡ Stage.Idle → c.begins ≡ false → untaken script c ≡ st ∷ drop (c.place + 1) (option_map_or (λ d. d.statements) (slice_get script.sessions c.number) []) →
     ((go : Journal → Plan) → queued script (mode_after st c.mode) acts stage done go ≡ block script c.mode st done go) →
     m ≡ mode_after st c.mode → b ≡ ends st →
     Stands script (record { number = c.number; place = c.place + 1; mode = m; begins = b; queue = acts; stage = stage }) done
-takes script c done st acts stage m b h q i g s f p e = rw (p, e)
-    (h ∙ (same ∙ sym (f (λ x. blocks script (mode_after st c.mode) (ends st) (drop (c.place + 1) (option_map_or (λ d. d.statements) (slice_get script.sessions c.number) [])) x))))
+takes script c done st acts stage m b h q i g s f p e = rw (p, e) (
+  within (option_map_or (λ d. d.statements) (slice_get script.sessions c.number) []) c.place st (drop (c.place + 1) (option_map_or (λ d. d.statements) (slice_get script.sessions c.number) [])) s,
+  λ more. h.1 more ∙ (same more ∙ sym (f (λ x. blocks script (mode_after st c.mode) (ends st) (drop (c.place + 1) (option_map_or (λ d. d.statements) (slice_get script.sessions c.number) []) ++ more) x))),
+)
   where
-    same : plan_at script c done ≡ block script c.mode st done (λ x. blocks script (mode_after st c.mode) (ends st) (drop (c.place + 1) (option_map_or (λ d. d.statements) (slice_get script.sessions c.number) [])) x)
-    same = rw (q, i, g, s) refl
+    same : (more : List Statement) → plan_at script c more done ≡ block script c.mode st done (λ x. blocks script (mode_after st c.mode) (ends st) (drop (c.place + 1) (option_map_or (λ d. d.statements) (slice_get script.sessions c.number) []) ++ more) x)
+    same more = rw (q, i, g, s) refl
 
 -- it answers from the results or from the store
 pub answers : (script : Script) (c : Control) (done : Journal) → Stands script c done → c.queue ≡ [] → is_answering c.stage ≡ true →
     Stands script (record { number = c.number; place = c.place; mode = c.mode; begins = c.begins; queue = c.queue; stage = decided script c.mode done c.stage }) done
-answers script c done h e a = h ∙ rw e (by_stage c.stage a (λ d. blocks script c.mode c.begins (untaken script c) d))
+answers script c done h e a = (h.0, λ more. h.1 more ∙ rw e (by_stage c.stage a (λ d. blocks script c.mode c.begins (untaken script c ++ more) d)))
   where
     by_test : (x : Bool) (q : ℕ) (go : Journal → Plan) → cond x (look script c.mode q done go) (list_store script c.mode q done go) ≡
         staged script c.mode (cond x (Stage.Looking q) (Stage.Listing q)) done go
@@ -67,11 +77,18 @@ pub open_queue : (acts : List Act) (stage : Stage) (due : Bool) (sts : List Stat
 open_queue (a ∷ acts) stage due sts p = absurd (true≢false p)
 open_queue [] stage due sts p = refl
 
+-- it stands for what is left of its session's plan as it is
+plan_now : (script : Script) (c : Control) (done : Journal) → Stands script c done →
+    left_of (plan_of script c.number) done ≡ queued script c.mode c.queue c.stage done (λ d. blocks script c.mode c.begins (untaken script c) d)
+plan_now script c done h =
+    sym (ap (λ sts. left_of (blocks script Mode.Normal true sts []) done) (append-nil (option_map_or (λ d. d.statements) (slice_get script.sessions c.number) [])))
+    ∙ (h.1 [] ∙ ap (λ sts. queued script c.mode c.queue c.stage done (λ d. blocks script c.mode c.begins sts d)) (append-nil (untaken script c)))
+
 -- the act that is due, if it is settled
 pub act_due : (script : Script) (c : Control) (done : Journal) → Stands script c done → is_settled script c ≡ true →
     act_at c.queue c.stage c.begins (untaken script c) done ≡ next script c.number done
 unfolding next
-act_due script c done h s = by_queue c.queue c.stage c.begins (untaken script c) s ∙ ap first_act (sym h)
+act_due script c done h s = by_queue c.queue c.stage c.begins (untaken script c) s ∙ ap first_act (sym (plan_now script c done h))
   where
     by_queue : (acts : List Act) (stage : Stage) (due : Bool) (sts : List Statement) → settles acts stage due sts ≡ true →
         act_at acts stage due sts done ≡ first_act (queued script c.mode acts stage done (λ d. blocks script c.mode due sts d))
@@ -92,24 +109,24 @@ act_due script c done h s = by_queue c.queue c.stage c.begins (untaken script c)
 -- an entry of an act that was queued
 pub queue_steps : (script : Script) (c : Control) (done : Journal) (e : Entry) (a : Act) (acts : List Act) → c.queue ≡ a ∷ acts → Stands script c done →
     Stands script (record { number = c.number; place = c.place; mode = c.mode; begins = c.begins; queue = acts; stage = c.stage }) (e ∷ done)
-queue_steps script c done e a acts q h = ap (λ p. after p e) h ∙ rw q refl
+queue_steps script c done e a acts q h = (h.0, λ more. ap (λ p. after p e) (h.1 more) ∙ rw q refl)
 
--- an entry, if nothing is queued and no block is open: a transaction begins, or nothing is left
-pub begin_steps : (script : Script) (c : Control) (done : Journal) (e : Entry) → c.queue ≡ [] → c.stage ≡ Stage.Idle → is_settled script c ≡ true → Stands script c done →
+-- an entry, if nothing is queued and no block is open, and something is left: a transaction begins
+pub begin_steps : (script : Script) (c : Control) (done : Journal) (e : Entry) → c.queue ≡ [] → c.stage ≡ Stage.Idle → is_settled script c ≡ true → is_over script c ≡ false → Stands script c done →
     Stands script (record { number = c.number; place = c.place; mode = c.mode; begins = false; queue = c.queue; stage = c.stage }) (e ∷ done)
-begin_steps script c done e q i s h = by_rest (untaken script c) refl (rw (q, i) at s)
+begin_steps script c done e q i s o h = by_rest (untaken script c) refl (rw (q, i) at s) (rw (q, i) at o)
   where
-    by_rest : (sts : List Statement) → untaken script c ≡ sts → settles [] Stage.Idle c.begins (untaken script c) ≡ true →
+    by_rest : (sts : List Statement) → untaken script c ≡ sts → settles [] Stage.Idle c.begins (untaken script c) ≡ true → is_over_at [] Stage.Idle c.begins (untaken script c) ≡ false →
         Stands script (record { number = c.number; place = c.place; mode = c.mode; begins = false; queue = c.queue; stage = c.stage }) (e ∷ done)
-    by_rest [] r s = ap (λ p. after p e) h ∙ rw (q, i, r) refl
-    by_rest (st ∷ sts) r s = let b : c.begins ≡ true = rw r at s in ap (λ p. after p e) h ∙ rw (q, i, b, r) refl
+    by_rest [] r s o = let n : true ≡ false = rw r at o in absurd (true≢false n)
+    by_rest (st ∷ sts) r s o = let b : c.begins ≡ true = rw r at s in (h.0, λ more. ap (λ p. after p e) (h.1 more) ∙ rw (q, i, b, r) refl)
 
 -- an entry of the act of a stage
 pub stage_steps : (script : Script) (c : Control) (done : Journal) (e : Entry) (acts : List Act) (stage : Stage) → c.queue ≡ [] →
     ((go : Journal → Plan) → queued script c.mode acts stage (e ∷ done) go ≡ after (staged script c.mode c.stage done go) e) → Stands script c done →
     Stands script (record { number = c.number; place = c.place; mode = c.mode; begins = c.begins; queue = acts; stage = stage }) (e ∷ done)
 stage_steps script c done e acts stage q f h =
-    ap (λ p. after p e) h ∙ (rw q refl ∙ sym (f (λ d. blocks script c.mode c.begins (untaken script c) d)))
+    (h.0, λ more. ap (λ p. after p e) (h.1 more) ∙ (rw q refl ∙ sym (f (λ d. blocks script c.mode c.begins (untaken script c ++ more) d))))
 
 -- a settled stage with nothing queued that is not idle has an act due
 pub stage_due : (stage : Stage) (due : Bool) (sts : List Statement) → settles [] stage due sts ≡ true → is_resting stage ≡ false → is_due stage ≡ true

@@ -29,7 +29,7 @@ pub record AreOpened (n : ℕ) (script : Script) (sessions : List Session) : Typ
 some_same : (x z : Session) → Some x ≡ Some z → x ≡ z
 some_same x z e = cc
 
-at_end : (xs : List Session) (y : Session) (s : ℕ) (z : Session) → slice_get (xs ++ y ∷ []) s ≡ Some z → (slice_get xs s ≡ Some z) ⊎ ((s ≡ length xs) × (z ≡ y))
+pub at_end : (xs : List Session) (y : Session) (s : ℕ) (z : Session) → slice_get (xs ++ y ∷ []) s ≡ Some z → (slice_get xs s ≡ Some z) ⊎ ((s ≡ length xs) × (z ≡ y))
 at_end [] y zero z p = inr (refl, sym (some_same y z p))
 at_end [] y (suc s) z p = absurd (none_some z p)
   where

@@ -1,5 +1,5 @@
 -- What is left of a session's plan, by the state of a machine.
-use Rattle.std.specs.Prelude.{◌≡◌, ℕ, ◌+◌, ◌*◌, ◌^◌, not, length, Bool, true, false, if◌then◌else◌, List, [], ◌∷◌, drop, slice_get, Some, None, Option}
+use Rattle.std.specs.Prelude.{◌≡◌, ℕ, ◌≤◌, ◌++◌, ◌+◌, ◌*◌, ◌^◌, not, length, Bool, true, false, if◌then◌else◌, List, [], ◌∷◌, drop, slice_get, Some, None, Option}
 use Rattle.std.specs.Option.{option_map_or}
 use Rattle.hib_journal.specs.Types.{Mode, Statement, Script, Act}
 use Rattle.hib_journal.specs.Sessions.{Journal, time_in}
@@ -28,12 +28,18 @@ queued script m acts stage done go = each acts done (λ d. staged script m stage
 abbrev pub untaken : Script → Control → List Statement
 untaken script c = drop c.place (option_map_or (λ d. d.statements) (slice_get script.sessions c.number) [])
 
-abbrev pub plan_at : Script → Control → Journal → Plan
-plan_at script c done = queued script c.mode c.queue c.stage done (λ d. blocks script c.mode c.begins (untaken script c) d)
+-- the plan of a session that is given more statements behind its own
+abbrev pub plan_with : Script → ℕ → List Statement → Plan
+plan_with script n more = blocks script Mode.Normal true (option_map_or (λ d. d.statements) (slice_get script.sessions n) [] ++ more) []
 
--- the machine stands for what is left of its session's plan after these entries
+abbrev pub plan_at : Script → Control → List Statement → Journal → Plan
+plan_at script c more done = queued script c.mode c.queue c.stage done (λ d. blocks script c.mode c.begins (untaken script c ++ more) d)
+
+-- the machine stands for what is left of its session's plan after these entries, whatever statements the session is given behind its own
 abbrev pub Stands : Script → Control → Journal → Type 0
-Stands script c done = left_of (plan_of script c.number) done ≡ plan_at script c done
+Stands script c done =
+    (c.place ≤ length (option_map_or (λ d. d.statements) (slice_get script.sessions c.number) []))
+    × ((more : List Statement) → left_of (plan_with script c.number more) done ≡ plan_at script c more done)
 
 -- it has an act that is due, or it is over
 abbrev pub settles : List Act → Stage → Bool → List Statement → Bool

@@ -79,10 +79,10 @@ pub record Knows (memory : Remembered) (mine : Journal) : Type 0 where
 
 -- instances that arrive: made new, or read
 abbrev pub made : Row → Held
-made r = record { state = State.New; base = None; row = r; removed = 0 }
+made r = record { state = State.New; base = None; row = r }
 
 abbrev pub managed : Row → Held
-managed r = record { state = State.Managed; base = Some r; row = r; removed = 0 }
+managed r = record { state = State.Managed; base = Some r; row = r }
 
 -- an instance arrives: one of the same key leaves, and it comes last
 abbrev pub arrive_in : Key → Held → Pairs → Pairs

@@ -438,7 +438,8 @@ impl Control {
             → queued script self.old.mode queue stage (entry ∷ done) go
             ≡ after (staged script self.old.mode self.old.stage done go) entry)
             → Stands script self.old done → Rattle.hib_session.specs.Control.is_settled script
-            self.old ≡ true → Stands script self.new (entry ∷ done) }
+            self.old ≡ true → Rattle.hib_session.specs.Control.is_over script self.old ≡ false
+            → Stands script self.new (entry ∷ done) }
         ensures weight { (script : Script)
             → (self.old.queue ≡ [] → is_due self.old.stage ≡ true
             → rank stage < rank self.old.stage)

@@ -5,6 +5,7 @@ mod ahead;
 mod bounds;
 mod changed;
 mod control;
+mod growing;
 mod instances;
 mod keyed;
 mod killing;
@@ -18,6 +19,7 @@ mod stages;
 mod written;
 
 pub use bounds::entries_are_few;
+pub use growing::sessions_may_grow;
 pub use killing::{kill_all, kill_at};
 pub use opening::open_all;
 pub use session::Session;

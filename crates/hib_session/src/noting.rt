@@ -29,7 +29,6 @@ fn read_held(alloc: Global, row: &Row) -> Result<Held, AllocError>
         state: State::Managed,
         base: Some(base),
         row,
-        removed: 0,
     })
 }
 
@@ -42,7 +41,6 @@ fn made_held(alloc: Global, row: &Row) -> Result<Held, AllocError>
         state: State::New,
         base: None,
         row,
-        removed: 0,
     })
 }
 

@@ -1,7 +1,7 @@
-// The top call over standard input and output, with the listeners that the words ask for.
-ghost use Rattle.std.specs.Prelude.{◌≡◌, ◌≢◌, ◌↔◌, if◌then◌else◌, false, length, IfOk, None};
+// The call that a program makes, over streams, a keeper and listeners that it hands in.
+ghost use Rattle.std.specs.Prelude.{◌≡◌, if◌then◌else◌, false, length, IfOk};
 ghost use Rattle.std.specs.Option.{option_map_or};
-ghost use Rattle.hib_outside.specs.Causes.{Rose};
+ghost use Rattle.hib_call.specs.Outside.{outside, outside_of, shared};
 ghost use Rattle.hib_top.specs.Words.{asked_in};
 ghost use Rattle.hib_shell.specs.Called.{IsTopCall};
 ghost use Rattle.hib_words.specs.Commands.{asked_of};
@@ -9,11 +9,10 @@ ghost use Rattle.hib_words.specs.Topics.{is_traced};
 
 use hib_call::{Lent, Status};
 use hib_listeners::Trace;
-use hib_outside::{Keeper, OpenGate, StdSink, StdSource};
+use hib_outside::{Keeper, Listener, OpenGate, Sink, Source, StdSink};
 use hib_top::top;
 use hib_words::Command;
-use std::alloc::AllocError;
-use std::io;
+use std::alloc::{AllocError, Global};
 use std::io::Stderr;
 use std::sync::Wait;
 use std::thread::Threads;
@@ -38,39 +37,23 @@ pub fn listeners_asked(
     Ok(listeners)
 }
 
-/// Calls the top call with the words, over this keeper: the script comes by standard input, the text goes to standard
-/// output. It ends as the top call does, and leaves the keeper as that does.
-#[tactic(auto, using(hib_top::proofs::Calls::none_tables, hib_top::proofs::Calls::store_if, crate::proofs::Came::idle_call))]
-pub fn call<R: Threads + Wait + Sync, K: Keeper>(
+/// Calls the top call with the words, over these streams and what is lent, and no gate holds a worker back. It ends as
+/// the top call does, and leaves the streams and the keeper as that does. What was run is let go, and so are the
+/// listeners that stayed.
+pub fn call<R: Threads + Wait + Sync, S: Source, W: Sink, K: Keeper, L: Listener>(
     rt: &R,
-    host: &HostRuntime,
+    alloc: Global,
     words: &[String],
-    command: &Option<Command>,
-    keeper: K,
+    source: &mut S,
+    out: &mut W,
+    lent: Lent<K, L>,
 ) -> (Status, K)
-    ensures came { IsTopCall (asked_in words.now)
-        (record { tables = K.tables keeper; faults = K.faults keeper; asked = K.asked keeper })
-        (record { tables = K.tables result.1; faults = K.faults result.1; asked = K.asked result.1 })
+    ensures promised { IsTopCall (asked_in words.now)
+        (outside_of S.Source W.Sink K.Keeper L.Listener source.old out.old lent)
+        (λ told. outside (S.left source.new) (S.faults source.new) (W.taken out.new)
+        (W.faults out.new) (shared (K.tables result.1) (K.faults result.1) (K.asked result.1) told))
         result.0 }
-    ensures usage { result.0 ≢ Status.NoMemory
-        → ((result.0 ≡ Status.Usage) ↔ (asked_in words.now ≡ None)) }
-    ensures idle { asked_in words.now ≡ None → K.tables result.1 ≡ K.tables keeper }
-    ensures store { result.0 ≡ Status.StoreFault → Rose (K.faults keeper) (K.faults result.1) }
 {
-    let Ok(listeners) = listeners_asked(host, command) else {
-        return (Status::NoMemory, keeper);
-    };
-    let mut source = StdSource::new(host.reader());
-    let mut sink = StdSink::new(io::writer(host));
-    let lent = Lent { keeper, listeners };
-    let called = top(
-        rt,
-        host.alloc(),
-        words,
-        &mut source,
-        &mut sink,
-        lent,
-        &OpenGate,
-    );
+    let called = top(rt, alloc, words, source, out, lent, &OpenGate);
     (called.status, called.lent.keeper)
 }

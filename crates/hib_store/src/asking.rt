@@ -4,11 +4,13 @@ ghost use Rattle.hib_base.specs.Tables.{commit_answer};
 ghost use Rattle.hib_outside.specs.Causes.{Rose};
 ghost use Rattle.hib_outside.specs.Verdicts.{commit_of, IsPlace};
 ghost use Rattle.hib_query_eval.specs.Reads.{read_by};
-ghost use Rattle.hib_store.specs.Stores.{IsIndexed, IsView, names_change, tables_committed};
+ghost use Rattle.hib_store.specs.Stores.{IsIndexed, IsListed, IsView, names_change, tables_committed};
 ghost use Rattle.hib_store.specs.declared.asking.Loaded.{Loaded};
+ghost use Rattle.hib_store.specs.declared.store.Listed.{Listed};
 ghost use Rattle.hib_store.specs.Types.{Commit};
 
-use crate::queries;
+use crate::store::Listed;
+use crate::{queries, views};
 use hib_base::{Change, Commit, Key, Query, Row, Rows};
 use hib_outside::{Applied, KeepFault, Keeper};
 use hib_query_eval::Index;
@@ -40,11 +42,7 @@ pub fn read<K: Keeper>(alloc: Global, keeper: &mut K, key: Key) -> Result<Loaded
 }
 
 /// Asks a keeper for the rows of the tables that a query reads. None if the keeper failed.
-pub fn list<K: Keeper>(
-    alloc: Global,
-    keeper: &mut K,
-    query: &Query,
-) -> Result<Option<Rows>, AllocError>
+fn list<K: Keeper>(alloc: Global, keeper: &mut K, query: &Query) -> Result<Option<Rows>, AllocError>
     ensures rows { IfOk result (λ found. IfSome found
         (λ rows. IfSome (K.tables keeper.old) (λ m. rows ≡ read_by query.now m))) }
     ensures fault { result ≡ Ok None → Rose (K.faults keeper.old) (K.faults keeper.new) }
@@ -59,6 +57,28 @@ pub fn list<K: Keeper>(
         Err(KeepFault::NoMemory) => Err(AllocError),
         Err(KeepFault::Failed) => Ok(None),
     }
+}
+
+/// Asks a keeper for the rows of the tables that a query reads, and gives what the query gives over them with changes
+/// laid over them. A fault if the keeper failed.
+pub fn listed<K: Keeper>(
+    alloc: Global,
+    keeper: &mut K,
+    query: &Query,
+    changes: &[Change],
+) -> Result<Listed, AllocError>
+    ensures listed { IfOk result (IsListed (K.tables keeper.old) changes.now query.now) }
+    ensures fault { result ≡ Ok Listed.Fault
+        → Rose (K.faults keeper.old) (K.faults keeper.new) }
+    ensures faults { K.faults keeper.old ≤ K.faults keeper.new }
+    ensures asked { (K.asked keeper.old ≤ K.asked keeper.new)
+        × (K.asked keeper.new ≤ K.asked keeper.old + 1) }
+    ensures tables { K.tables keeper.new ≡ K.tables keeper.old }
+{
+    let Some(rows) = list(alloc, keeper, query)? else {
+        return Ok(Listed::Fault);
+    };
+    Ok(Listed::List(views::listed(alloc, query, rows, changes)?))
 }
 
 /// Asks a keeper for the rows of the first entities, and makes an index of them. None if the keeper failed.

@@ -2,6 +2,7 @@
 #![tactic(auto)]
 
 mod asking;
+mod indexed;
 mod last_list;
 mod queries;
 mod snapshot;

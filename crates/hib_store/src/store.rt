@@ -6,13 +6,13 @@ ghost use Rattle.hib_base.specs.Tables.{Tables, row_at, row_left, last_on, after
 ghost use Rattle.hib_outside.specs.Causes.{Rose};
 
 use crate::asking::{self, Loaded};
-use crate::last_list::{self, LastList};
+use crate::last_list::LastList;
 use crate::snapshot::Snapshot;
 use crate::written::Written;
-use crate::{queries, views, written};
+use crate::{indexed, queries, views, written};
 use hib_base::{Change, Commit, Cond, EntityNo, Key, Listing, Mapping, Query, Row, SessionNo};
 use hib_outside::{KeepFault, Keeper};
-use hib_query_eval::{Index, Own};
+use hib_query_eval::Index;
 use std::alloc::{AllocError, Global};
 use std::marker::Model;
 
@@ -212,26 +212,18 @@ impl<K: Keeper> Store<K> {
             → self.new.indexed ≡ self.old.indexed }
     {
         if !queries::reads_below(query, self.entities) {
-            let Some(rows) = asking::list(alloc, &mut self.keeper, query)? else {
-                return Ok(Listed::Fault);
-            };
             let changes = written::changes_of(&self.written, session);
-            return Ok(Listed::List(views::listed(alloc, query, rows, changes)?));
-        }
-        if self.index.is_some() {
-            if let Some(list) = last_list::again(alloc, &self.last, session, query)? {
-                return Ok(Listed::List(list));
-            }
+            return asking::listed(alloc, &mut self.keeper, query, changes);
         }
         asking::make_index(alloc, &mut self.keeper, &mut self.index, self.entities)?;
-        views::ready(alloc, &mut self.index, query)?;
-        written::lay(alloc, &mut self.written, session, query)?;
-        let Some(own) = written::own_of(&self.written, session) else {
-            return views::answered(alloc, &self.index, query, &Own::new(alloc));
-        };
-        let listed = views::answered(alloc, &self.index, query, own)?;
-        self.last = last_list::kept(alloc, session, query, &listed)?;
-        Ok(listed)
+        indexed::list(
+            alloc,
+            &mut self.index,
+            &mut self.written,
+            &mut self.last,
+            session,
+            query,
+        )
     }
 
     /// Makes the index of the committed rows of the first entities, unless it stands. False only if the keeper failed;

@@ -19,6 +19,7 @@ use Rattle.hib_toolbox.specs.Repeating.{IsSaidOfRepeat, repeating}
 use Rattle.hib_toolbox.specs.Reporting.{reporting}
 use Rattle.hib_toolbox.specs.Stating.{stating}
 use Rattle.hib_toolbox.specs.declared.repeat.Repeated.{Repeated}
+use Rattle.hib_toolbox.specs.declared.show.Shown.{Shown}
 
 -- ---- a call in which memory ran out before anything was done
 no_read_fault : Status.NoMemory ≡ Status.ReadFault → ⊥
@@ -106,7 +107,7 @@ pub not_said : (answer : Status) (run : Option Explored) → (answer ≡ Status.
 not_said Status.Done run other = absurd (other refl)
 not_said _ run other = refl
 
-pub not_said_of : (finding : Finding) (answer : Status) (run : Option Explored) → (answer ≡ Status.Done → ⊥) → IsSaidOf finding answer run Said.Nothing
+pub not_said_of : (finding : Finding) (answer : Status) (run : Option Shown) → (answer ≡ Status.Done → ⊥) → IsSaidOf finding answer run Said.Nothing
 not_said_of finding Status.Done run other = absurd (other refl)
 not_said_of finding _ run other = refl
 

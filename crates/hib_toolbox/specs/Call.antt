@@ -11,6 +11,7 @@ use Rattle.hib_toolbox.specs.declared.ended.Said.{Said}
 use Rattle.hib_toolbox.specs.declared.orders.Explored.{Explored}
 use Rattle.hib_toolbox.specs.Exploring.{IsSaid, IsSaidOf, exploring, finding_numbered, showing}
 use Rattle.hib_toolbox.specs.declared.repeat.Repeated.{Repeated}
+use Rattle.hib_toolbox.specs.declared.show.Shown.{Shown}
 use Rattle.hib_toolbox.specs.Data.{flattening, tracing}
 use Rattle.hib_toolbox.specs.Listing.{listing}
 use Rattle.hib_toolbox.specs.Repeating.{IsSaidOfRepeat, repeating}
@@ -29,7 +30,7 @@ DoesTool tool.Rows old new answer said = (run : Option Script) × IsCalled listi
 DoesTool (tool.Orders switches kills at_most None) old new answer said =
     (run : Option Explored) × IsCalled (exploring switches kills at_most) old new answer run × IsSaid answer run said
 DoesTool (tool.Orders switches kills at_most (Some k)) old new answer said =
-    (run : Option Explored) × IsCalled (showing switches kills at_most (finding_numbered k)) old new answer run
+    (run : Option Shown) × IsCalled (showing switches kills at_most (finding_numbered k)) old new answer run
     × IsSaidOf (finding_numbered k) answer run said
 
 -- and if the words have no form, nothing is done

@@ -1,5 +1,5 @@
 -- The orders of a script's sessions, tried and told.
-use Rattle.std.specs.Prelude.{◌≡◌, ◌⊎◌, ◌≤◌, ◌^◌, ◌-◌, ◌||◌, ◌==◌, ℕ, Bool, true, false, if◌then◌else◌, List, [], is_some, IfSome, Some, None, Option, Ok, Err}
+use Rattle.std.specs.Prelude.{◌≡◌, ◌⊎◌, ◌≤◌, ◌^◌, ◌-◌, ◌&&◌, ◌||◌, ◌==◌, ℕ, Bool, true, false, if◌then◌else◌, List, [], is_some, IfSome, Some, None, Option, Ok, Err}
 use Rattle.hib_journal.specs.Types.{Key, Strategy, Script, Entry}
 use Rattle.hib_journal.specs.Next.{strategy}
 use Rattle.hib_journal.specs.Played.{is_played}
@@ -22,11 +22,12 @@ use Rattle.hib_script.specs.Script.{script_of}
 use Rattle.hib_call.specs.declared.status.Status.{Status}
 use Rattle.hib_call.specs.Command.{Command}
 use Rattle.hib_call.specs.Limits.{max_script}
-use Rattle.hib_call.specs.Ends.{IsWritten}
+use Rattle.hib_call.specs.Ends.{IsTextTold}
 use Rattle.hib_call.specs.Outside.{Shared}
 use Rattle.hib_toolbox.specs.declared.ended.Said.{Said}
 use Rattle.hib_toolbox.specs.declared.orders.Explored.{Explored}
-use Rattle.hib_toolbox.specs.Reporting.{IsToldSo}
+use Rattle.hib_toolbox.specs.declared.show.Shown.{Shown}
+use Rattle.hib_toolbox.specs.Written.{is_script}
 
 -- the finding of a number, 1 to 5
 abbrev pub finding_numbered : ℕ → Finding
@@ -63,11 +64,12 @@ pub record IsShown (script : Script) (kills : ℕ) (finding : Finding) (f : Firs
 -- the orders of a script with so many switches and kills at most were tried, or so many of them
 pub record Explores (switches kills : ℕ) (at_most : Option ℕ) (script : Script) (run : Explored) : Type 0 where
   pub of : run.script ≡ script
-  -- each once; what is counted of them is what they come to; and they are all of them, or all with fewer switches than it says
+  -- each once; what is counted of them is what they come to; and they are all of them, or all with fewer switches than it says and none with
+  -- more
   pub told : IsTold script (rows_at_start script) (judged_from_start script) (ended_in script) kills switches run.told.whole run.told.level run.told.findings
-  -- it stops at the bound alone, or after 2^64 - 1 plays
+  -- it stops at the bound alone
   pub few : run.told.findings.tried ≤ limit_of at_most
-  pub whole : (run.told.whole ≡ true) ⊎ ((run.told.findings.tried ≡ limit_of at_most) ⊎ (run.told.played ≡ 2 ^ 64 - 1))
+  pub whole : (run.told.whole ≡ true) ⊎ (run.told.findings.tried ≡ limit_of at_most)
   -- if all were tried and something is told of none, then no run of the sessions, without faults and with so few switches and kills, has it,
   -- whoever made it
   pub none : (finding : Finding) → run.told.whole ≡ true → (found_of run.told.findings finding).first ≡ None →
@@ -78,7 +80,7 @@ pub record Explores (switches kills : ℕ) (at_most : Option ℕ) (script : Scri
       IsKeyCoherent script (rows_at_start script) k (onto es [])
 
 -- memory may run out before all were tried
-abbrev pub Stops : Shared → Shared → Status → Option Explored → Type 0
+abbrev pub Stops : {R : Type 0} → Shared → Shared → Status → Option R → Type 0
 Stops old new Status.NoMemory None = new ≡ old
 Stops old new _ _ = ⊥
 
@@ -104,7 +106,7 @@ exploring switches kills at_most = record {
   has_form = λ text. (said : Outline) × (script_of text ≡ Ok said);
   leaves = λ script old new run. Explores switches kills at_most script run × (new ≡ old);
   stops = λ script. Stops;
-  tells = λ run answer taken written. IsWritten answer (text run.script kills switches run.told) taken written × IsToldSo answer;
+  tells = λ run answer taken written. IsTextTold answer (text run.script kills switches run.told) taken written;
 }
 
 -- ---- one finding shown
@@ -114,20 +116,32 @@ abbrev pub script_shown : Script → Option First → Script
 script_shown script None = script
 script_shown script (Some f) = with_schedule script (shown f.order.items)
 
-pub record Shows (switches kills : ℕ) (at_most : Option ℕ) (finding : Finding) (script : Script) (run : Explored) : Type 0 where
+-- the orders were tried, and it is known whether the text of the script with that schedule is a script's
+pub record Shows (switches kills : ℕ) (at_most : Option ℕ) (finding : Finding) (script : Script) (run : Shown) : Type 0 where
   pub explored : Explores switches kills at_most script (record { script = script; told = run.told })
   pub shown : run.script ≡ script_shown script (found_of run.told.findings finding).first
+  pub readable : run.readable ≡ is_script (printed run.script)
 
--- nothing is written if it wasn't found
-abbrev pub shown_text : Finding → Explored → List ℕ
-shown_text finding run = if is_there run.told.findings finding then printed run.script else []
+-- nothing is written if it wasn't found, or if what would be written isn't a script's text
+abbrev pub shown_text : Finding → Shown → List ℕ
+shown_text finding run = if is_there run.told.findings finding && run.readable then printed run.script else []
 
-abbrev pub IsSaidOf : Finding → Status → Option Explored → Said → Type 0
-IsSaidOf finding Status.Done (Some run) said = said ≡ (if is_there run.told.findings finding then Said.Nothing else Said.Missing)
+-- and then it is said
+abbrev pub said_of_shown : Finding → Shown → Said
+said_of_shown finding run =
+    if is_there run.told.findings finding then (if run.readable then Said.Nothing else Said.Long) else Said.Missing
+
+abbrev pub IsSaidOf : Finding → Status → Option Shown → Said → Type 0
+IsSaidOf finding Status.Done (Some run) said = said ≡ said_of_shown finding run
 IsSaidOf finding _ _ said = said ≡ Said.Nothing
 
-abbrev pub showing : ℕ → ℕ → Option ℕ → Finding → Command Script Explored
-showing switches kills at_most finding = record (exploring switches kills at_most) {
+abbrev pub showing : ℕ → ℕ → Option ℕ → Finding → Command Script Shown
+showing switches kills at_most finding = record {
+  limit = max_script;
+  reads = λ text script. script_of text ≡ Ok (outline_of script);
+  refuses = λ text refused. script_of text ≡ Err refused;
+  has_form = λ text. (said : Outline) × (script_of text ≡ Ok said);
   leaves = λ script old new run. Shows switches kills at_most finding script run × (new ≡ old);
-  tells = λ run answer taken written. IsWritten answer (shown_text finding run) taken written × IsToldSo answer;
+  stops = λ script. Stops;
+  tells = λ run answer taken written. IsTextTold answer (shown_text finding run) taken written;
 }

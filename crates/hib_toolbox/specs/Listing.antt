@@ -9,9 +9,8 @@ use Rattle.hib_script.specs.Script.{script_of}
 use Rattle.hib_call.specs.declared.status.Status.{Status}
 use Rattle.hib_call.specs.Command.{Command}
 use Rattle.hib_call.specs.Limits.{max_script}
-use Rattle.hib_call.specs.Ends.{IsWritten}
+use Rattle.hib_call.specs.Ends.{IsTextTold}
 use Rattle.hib_call.specs.Outside.{Shared}
-use Rattle.hib_toolbox.specs.Reporting.{IsToldSo}
 
 -- the keeper was asked, and its rows are as before
 pub record IsKept (old new : Shared) : Type 0 where
@@ -39,5 +38,5 @@ listing = record {
   has_form = λ text. (said : Outline) × (script_of text ≡ Ok said);
   leaves = IsListed;
   stops = λ script. StopsListing;
-  tells = λ run answer taken written. IsWritten answer (printed_rows run) taken written × IsToldSo answer;
+  tells = λ run answer taken written. IsTextTold answer (printed_rows run) taken written;
 }

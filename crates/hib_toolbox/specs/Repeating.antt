@@ -1,5 +1,5 @@
 -- The script whose schedule repeats a journal.
-use Rattle.std.specs.Prelude.{◌≡◌, ℕ, Bool, true, false, not, ◌||◌, List, [], length, is_some, position, Some, None, Option}
+use Rattle.std.specs.Prelude.{◌≡◌, ℕ, Bool, true, false, not, ◌&&◌, ◌||◌, List, [], length, is_some, position, Some, None, Option}
 use Rattle.hib_base.specs.Tables.{Tables}
 use Rattle.hib_journal.specs.Types.{Script, Entry, Order}
 use Rattle.hib_journal.specs.Legal.{IsLegal}
@@ -14,12 +14,12 @@ use Rattle.hib_input.specs.declared.with_journal.WithJournal.{WithJournal}
 use Rattle.hib_call.specs.declared.status.Status.{Status}
 use Rattle.hib_call.specs.Command.{Command}
 use Rattle.hib_call.specs.Limits.{max_journal}
-use Rattle.hib_call.specs.Ends.{IsWritten}
+use Rattle.hib_call.specs.Ends.{IsTextTold}
 use Rattle.hib_call.specs.Outside.{Shared}
 use Rattle.hib_toolbox.specs.declared.ended.Said.{Said}
 use Rattle.hib_toolbox.specs.declared.repeat.Repeatable.{Repeatable}
 use Rattle.hib_toolbox.specs.declared.repeat.Repeated.{Repeated}
-use Rattle.hib_toolbox.specs.Reporting.{IsToldSo}
+use Rattle.hib_toolbox.specs.Written.{is_script}
 
 -- an entry is no session's own step, and kills none
 abbrev pub is_foreign : Entry → Bool
@@ -32,20 +32,24 @@ pub record Repeats (script : Script) (es : List Entry) (by : Script) : Type 0 wh
   pub again : (start : Tables) (kills : ℕ) (h : Journal) → IsRun script start kills es → IsLegal by (Some start) h → IsNumbered h →
       fault_count h ≡ 0 → is_played by h ≡ true → h ≡ onto es []
 
+-- whether a script may have orders as its schedule, and its text with them is a script's
+abbrev pub may_be_written : Script → List Order → Bool
+may_be_written script os = may_be_schedule (length script.sessions) os && is_script (printed (with_schedule script os))
+
 -- whether a schedule repeats a journal, and the script with it
 abbrev pub IsRepeated : Script → List Entry → Repeatable → Script → Type 0
 IsRepeated script es (Repeatable.Foreign n) by = (position is_foreign es ≡ Some n) × (by ≡ script)
 IsRepeated script es Repeatable.Long by =
-    (position is_foreign es ≡ None) × (may_be_schedule (length script.sessions) (runs_of (steps_in es)) ≡ false) × (by ≡ script)
+    (position is_foreign es ≡ None) × (may_be_written script (runs_of (steps_in es)) ≡ false) × (by ≡ script)
 IsRepeated script es Repeatable.Whole by =
-    (position is_foreign es ≡ None) × (may_be_schedule (length script.sessions) (runs_of (steps_in es)) ≡ true)
+    (position is_foreign es ≡ None) × (may_be_written script (runs_of (steps_in es)) ≡ true)
     × (by ≡ with_schedule script (runs_of (steps_in es))) × Repeats script es by
 
--- the script with orders as its schedule, if it may have them
+-- the script with orders as its schedule, if it may be written with them
 abbrev pub IsScheduled : Script → List Order → Repeatable → Script → Type 0
 IsScheduled script os (Repeatable.Foreign n) by = ⊥
-IsScheduled script os Repeatable.Long by = (may_be_schedule (length script.sessions) os ≡ false) × (by ≡ script)
-IsScheduled script os Repeatable.Whole by = (may_be_schedule (length script.sessions) os ≡ true) × (by ≡ with_schedule script os)
+IsScheduled script os Repeatable.Long by = (may_be_written script os ≡ false) × (by ≡ script)
+IsScheduled script os Repeatable.Whole by = (may_be_written script os ≡ true) × (by ≡ with_schedule script os)
 
 -- memory may run out before it is known
 abbrev pub StopsRepeating : Shared → Shared → Status → Option Repeated → Type 0
@@ -76,5 +80,5 @@ repeating = record {
   has_form = IsWholeInput;
   leaves = λ input old new run. IsRepeated input.script input.journal.list run.repeatable run.script × (new ≡ old);
   stops = λ input. StopsRepeating;
-  tells = λ run answer taken written. IsWritten answer (repeated_text run.repeatable run.script) taken written × IsToldSo answer;
+  tells = λ run answer taken written. IsTextTold answer (repeated_text run.repeatable run.script) taken written;
 }

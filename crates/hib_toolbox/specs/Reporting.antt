@@ -1,19 +1,11 @@
 -- The report of a journal that comes after its script.
-use Rattle.std.specs.Prelude.{◌≡◌, ⊤}
+use Rattle.std.specs.Prelude.{◌≡◌}
 use Rattle.hib_input.specs.WithJournal.{IsInput, IsBadInput, IsWholeInput}
 use Rattle.hib_input.specs.declared.with_journal.WithJournal.{WithJournal}
 use Rattle.hib_report.specs.Report.{report}
-use Rattle.hib_call.specs.declared.status.Status.{Status}
 use Rattle.hib_call.specs.Command.{Command}
 use Rattle.hib_call.specs.Limits.{max_journal}
-use Rattle.hib_call.specs.Ends.{IsWritten}
-
--- a text was told whole, or the sink failed, or memory ran out
-abbrev pub IsToldSo : Status → Type 0
-IsToldSo Status.Done = ⊤
-IsToldSo Status.WriteFault = ⊤
-IsToldSo Status.NoMemory = ⊤
-IsToldSo _ = ⊥
+use Rattle.hib_call.specs.Ends.{IsTextTold}
 
 -- ---- the command
 abbrev pub reporting : Command WithJournal WithJournal
@@ -24,5 +16,5 @@ reporting = record {
   has_form = IsWholeInput;
   leaves = λ input old new run. (run ≡ input) × (new ≡ old);
   stops = λ input old new answer run. ⊥;
-  tells = λ run answer taken written. IsWritten answer (report run.script run.journal.list) taken written × IsToldSo answer;
+  tells = λ run answer taken written. IsTextTold answer (report run.script run.journal.list) taken written;
 }

@@ -2,7 +2,7 @@
 use Rattle.std.specs.Prelude.{◌≡◌, ℕ, List, Some, None, Option}
 use Rattle.hib_audit.specs.Breaks.{start_rows}
 use Rattle.hib_call.specs.Command.{Command}
-use Rattle.hib_call.specs.Ends.{IsWritten}
+use Rattle.hib_call.specs.Ends.{IsTextTold}
 use Rattle.hib_call.specs.Limits.{max_journal}
 use Rattle.hib_call.specs.Outside.{Shared}
 use Rattle.hib_call.specs.declared.status.Status.{Status}
@@ -17,7 +17,6 @@ use Rattle.hib_journal.specs.Types.{Script}
 use Rattle.hib_law.specs.Law.{Coheres}
 use Rattle.hib_states.specs.States.{states_text}
 use Rattle.hib_toolbox.specs.declared.states.States.{States}
-use Rattle.hib_toolbox.specs.Reporting.{IsToldSo}
 
 -- the states of a legal journal, of which the law holds: so what is told of a refusal is its cause by `HasCause`. Else its first entry that isn't legal
 abbrev pub IsTold : Script → Tables → Journal → States → Type 0
@@ -36,7 +35,7 @@ StopsStating old new _ _ = ⊥
 
 -- the states are written, or else which entry isn't legal is said by the status
 abbrev pub TellsStates : States → Status → Option (List ℕ) → Option (List ℕ) → Type 0
-TellsStates (States.Told text) answer taken written = IsWritten answer text.items taken written × IsToldSo answer
+TellsStates (States.Told text) answer taken written = IsTextTold answer text.items taken written
 TellsStates (States.Illegal entry kind) answer taken written = (answer ≡ Status.Illegal entry kind) × (written ≡ taken)
 
 -- ---- the command

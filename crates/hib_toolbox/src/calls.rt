@@ -4,7 +4,7 @@ ghost use Rattle.hib_base.specs.Valid.{is_valid};
 ghost use Rattle.hib_call.specs.Limits.{max_journal};
 ghost use Rattle.hib_call.specs.Outside.{outside_of};
 ghost use Rattle.hib_toolbox.specs.Call.{DoesTool};
-ghost use Rattle.hib_toolbox.specs.Exploring.{IsSaid, IsSaidOf, finding_numbered};
+ghost use Rattle.hib_toolbox.specs.Exploring.{IsSaid, IsSaidOf, finding_numbered, said_of_shown};
 ghost use Rattle.hib_toolbox.specs.Repeating.{IsSaidOfRepeat};
 ghost use Rattle.hib_words.specs.declared.tools.Tool.{Tool};
 
@@ -14,7 +14,7 @@ use crate::orders::{Explored, Orders, explore, is_any, is_there};
 use crate::repeat::{Repeat, Repeatable, Repeated, repeat_run};
 use crate::report::{Report, as_read};
 use crate::rows::{Rows, list_rows};
-use crate::show::{Show, explore_for};
+use crate::show::{Show, Shown, explore_for};
 use crate::spans::Trace;
 use crate::states::{Stating, state_journal};
 use hib_call::{Called, Lent, Status, call};
@@ -78,21 +78,29 @@ fn said_of(status: &Status, run: &Option<Explored>) -> Said
 }
 
 /// What is said of a search for a finding beside how its call ended.
-fn said_of_finding(finding: Finding, status: &Status, run: &Option<Explored>) -> Said
+fn said_of_finding(finding: Finding, status: &Status, run: &Option<Shown>) -> Said
     ensures { IsSaidOf finding status.now run.now result }
 {
     match status {
         Status::Done => match run {
-            Some(run) => {
-                if is_there(run, finding) {
-                    Said::Nothing
-                } else {
-                    Said::Missing
-                }
-            }
+            Some(run) => said_of_shown(finding, run),
             None => Said::Nothing,
         },
         _ => Said::Nothing,
+    }
+}
+
+/// What is said of a finding that was to be shown.
+fn said_of_shown(finding: Finding, run: &Shown) -> Said
+    ensures { result ≡ said_of_shown finding run.now }
+{
+    if !is_there(&run.told, finding) {
+        return Said::Missing;
+    }
+    if run.readable {
+        Said::Nothing
+    } else {
+        Said::Long
     }
 }
 

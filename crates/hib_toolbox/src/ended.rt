@@ -12,7 +12,9 @@ pub enum Said {
     Missing,
     /// No schedule repeats the journal: the entry at this place, from 0, is no session's own step, and no kill.
     Foreign(usize),
-    /// No schedule repeats the journal: it would have more than 20,000 lines, or a line of more than 1,000,000 steps.
+    /// The script with the schedule would be none: the schedule would have more than 20,000 lines, or a line of more than
+    /// 1,000,000 steps, or the text of the script would have a line of more than 4,096 bytes, or more than 1,048,576 in
+    /// all.
     Long,
 }
 

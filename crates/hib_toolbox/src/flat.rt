@@ -1,9 +1,8 @@
 // A journal as flat objects or as columns, which are comma-separated values (the word `flat`).
 ghost use Rattle.std.specs.Prelude.{◌≡◌};
-ghost use Rattle.hib_call.specs.Ends.{IsWritten};
+ghost use Rattle.hib_call.specs.Ends.{IsAfterRun, IsTextTold};
 ghost use Rattle.hib_flat.specs.Lines.{flat, flat_csv};
 ghost use Rattle.hib_outside.specs.Causes.{Rose};
-ghost use Rattle.hib_toolbox.specs.Reporting.{IsToldSo};
 
 use hib_call::{JOURNAL_BYTES, Status, Task};
 use hib_input::{WithJournal, read_with_journal};
@@ -14,10 +13,10 @@ use std::alloc::Global;
 
 /// Writes a journal as flat objects.
 fn tell_objects<W: Sink>(alloc: Global, run: &WithJournal, out: &mut W) -> Status
-    ensures told { IsWritten result (flat run.now.script run.now.journal.list) (W.taken out.old)
+    ensures told { IsTextTold result (flat run.now.script run.now.journal.list) (W.taken out.old)
         (W.taken out.new) }
-    ensures so { IsToldSo result }
     ensures write { result ≡ Status.WriteFault → Rose (W.faults out.old) (W.faults out.new) }
+    ensures after { IsAfterRun result }
 {
     match hib_flat::write(alloc, &run.script, run.journal.as_slice(), out) {
         Ok(()) => Status::Done,
@@ -28,10 +27,10 @@ fn tell_objects<W: Sink>(alloc: Global, run: &WithJournal, out: &mut W) -> Statu
 
 /// Writes a journal as columns.
 fn tell_columns<W: Sink>(alloc: Global, run: &WithJournal, out: &mut W) -> Status
-    ensures told { IsWritten result (flat_csv run.now.script run.now.journal.list) (W.taken out.old)
+    ensures told { IsTextTold result (flat_csv run.now.script run.now.journal.list) (W.taken out.old)
         (W.taken out.new) }
-    ensures so { IsToldSo result }
     ensures write { result ≡ Status.WriteFault → Rose (W.faults out.old) (W.faults out.new) }
+    ensures after { IsAfterRun result }
 {
     match hib_flat::write_csv(alloc, &run.script, run.journal.as_slice(), out) {
         Ok(()) => Status::Done,

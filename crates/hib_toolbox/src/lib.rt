@@ -14,6 +14,7 @@ mod show;
 mod spans;
 mod states;
 mod top;
+mod written;
 
 pub use ended::{Ended, Said};
 pub use flat::Flat;
@@ -21,7 +22,7 @@ pub use orders::{Explored, Orders};
 pub use repeat::{Repeat, Repeatable, Repeated};
 pub use report::Report;
 pub use rows::Rows;
-pub use show::Show;
+pub use show::{Show, Shown};
 pub use spans::Trace;
 pub use states::{States, Stating};
 pub use top::tools;

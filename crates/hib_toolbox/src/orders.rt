@@ -36,21 +36,21 @@ fn limit_of(at_most: Option<u32>) -> u64
 }
 
 /// Whether a search found a run that shows this.
-pub fn is_there(run: &Explored, finding: Finding) -> bool
-    ensures { result ≡ is_there run.now.told.findings finding }
+pub fn is_there(told: &Told, finding: Finding) -> bool
+    ensures { result ≡ is_there told.now.findings finding }
 {
-    found_of(&run.told.findings, finding).first.is_some()
+    found_of(&told.findings, finding).first.is_some()
 }
 
 /// Whether an order ends badly.
 pub fn is_any(run: &Explored) -> bool
     ensures { result ≡ is_any run.now.told.findings }
 {
-    is_there(run, Finding::StaleHit)
-        || is_there(run, Finding::OldList)
-        || is_there(run, Finding::LostUpdate)
-        || is_there(run, Finding::UnsoundKey)
-        || is_there(run, Finding::RefusedCommit)
+    is_there(&run.told, Finding::StaleHit)
+        || is_there(&run.told, Finding::OldList)
+        || is_there(&run.told, Finding::LostUpdate)
+        || is_there(&run.told, Finding::UnsoundKey)
+        || is_there(&run.told, Finding::RefusedCommit)
 }
 
 /// Reads a script, tries the orders of its sessions and writes what was found.
@@ -64,8 +64,8 @@ pub struct Orders {
     pub at_most: Option<u32>,
 }
 
-/// Tries the orders of a script's sessions. Nothing that is lent is touched. The watcher hears of each run that is
-/// played.
+/// Tries the orders of a script's sessions. Nothing that is lent is touched. The watcher hears of runs that are played; no
+/// clause says of which.
 pub fn tried<W: Watcher + Drop>(
     alloc: Global,
     orders: Orders,

@@ -7,16 +7,18 @@ ghost use Rattle.hib_order_law.specs.Orders.{steps_in};
 ghost use Rattle.hib_order_schedule.specs.Schedules.{runs_of};
 ghost use Rattle.hib_toolbox.specs.Repeating.{IsScheduled, is_foreign, repeating};
 
+use crate::written::is_read_again;
 use hib_base::{Act, Entry, Order, Script, Seq};
 use hib_call::{JOURNAL_BYTES, Lent, Outcome, Ran, Status, Task, tell_text};
 use hib_input::{WithJournal, read_with_journal};
 use hib_order_plays::order_of;
 use hib_order_schedule::{
-    may_have_schedule, runs_of, schedules_play_orders, whole_runs_come_again, with_schedule,
+    may_have_schedule, runs_of, schedules_play_orders, whole_runs_come_again,
 };
 use hib_outside::{Keeper, Listener, Sink};
 use hib_script::ScriptError;
 use std::alloc::{AllocError, Global};
+use std::mem::replace;
 
 /// Whether a schedule repeats a journal.
 #[derive(Clone, Copy, Debug, PartialEq, Eq)]
@@ -25,7 +27,8 @@ pub enum Repeatable {
     Whole,
     /// The entry at this place, from 0, is no session's own step, and no kill.
     Foreign(usize),
-    /// It would have more than 20,000 lines, or a line of more than 1,000,000 steps.
+    /// It would have more than 20,000 lines, or a line of more than 1,000,000 steps; or the text of the script would be
+    /// no script's, as it would have a line of more than 4,096 bytes, or more than 1,048,576 in all.
     Long,
 }
 
@@ -67,20 +70,37 @@ fn orders_of(alloc: Global, entries: &[Entry]) -> Result<Vec<Order>, AllocError>
     runs_of(alloc, order.as_slice())
 }
 
-/// The script with these orders as its schedule, if it may have them.
-fn put_schedule(script: Script, orders: Vec<Order>) -> Repeated
-    ensures { IsScheduled script orders.items result.repeatable result.script }
+/// The script with these orders as its schedule, if it may be written with them.
+fn put_schedule(alloc: Global, script: Script, orders: Vec<Order>) -> Result<Repeated, AllocError>
+    ensures { IfOk result (λ r. IsScheduled script orders.items r.repeatable r.script) }
 {
     if !may_have_schedule(&script, orders.as_slice()) {
-        return Repeated {
+        return Ok(Repeated {
             script,
             repeatable: Repeatable::Long,
-        };
+        });
     }
-    Repeated {
-        script: with_schedule(script, Seq::from_vec(orders)),
+    let mut script = script;
+    let before = replace(&mut script.schedule, Seq::from_vec(orders));
+    if !is_read_again(alloc, &script)? {
+        script.schedule = before;
+        return Ok(Repeated {
+            script,
+            repeatable: Repeatable::Long,
+        });
+    }
+    Ok(Repeated {
+        script,
         repeatable: Repeatable::Whole,
-    }
+    })
+}
+
+/// The script with the schedule of all runs and kills of a journal, if it may be written with it.
+fn put_runs(alloc: Global, script: Script, entries: &[Entry]) -> Result<Repeated, AllocError>
+    ensures { IfOk result (λ r. IsScheduled script (runs_of (steps_in entries.now)) r.repeatable r.script) }
+{
+    let orders = orders_of(alloc, entries)?;
+    put_schedule(alloc, script, orders)
 }
 
 /// Puts the schedule that repeats a journal into its script, if one does. Nothing that is lent is touched.
@@ -95,8 +115,8 @@ fn make_schedule(alloc: Global, input: WithJournal) -> Outcome<Repeated>
             script,
             repeatable: Repeatable::Foreign(entry),
         }),
-        None => match orders_of(alloc, journal.as_slice()) {
-            Ok(orders) => Outcome::Over(put_schedule(script, orders)),
+        None => match put_runs(alloc, script, journal.as_slice()) {
+            Ok(repeated) => Outcome::Over(repeated),
             Err(_) => Outcome::Stopped(Status::NoMemory, None),
         },
     }

@@ -79,7 +79,7 @@ fn ended_idle<K, L>(status: Status, lent: Lent<K, L>) -> Ended<K, L>
 /// the rows that the keeper has of its entities. The others read a script and a journal after it: `report` writes the
 /// report of the journal, `flat` its entries with a member for each thing, `schedule` the script whose schedule repeats
 /// it, `spans` a trace, `states` the state after each entry. If the words have no form, nothing is read and nothing
-/// written. The watcher hears of each run that `orders` plays.
+/// written. The watcher hears of runs that `orders` plays; no clause says of which.
 pub fn tools<S: Source, W: Sink, K: Keeper, L: Listener, H: Watcher + Drop>(
     alloc: Global,
     words: &[String],

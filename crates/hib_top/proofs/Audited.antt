@@ -4,8 +4,8 @@ use Rattle.std.proofs.lemmas.List.{length-reverse}
 use Rattle.hib_journal.specs.Kept.{Kept, past}
 use Rattle.hib_audit.specs.declared.verdict.Audit.{Audit}
 use Rattle.hib_call.specs.declared.status.Status.{Status}
-use Rattle.hib_call.specs.Ends.{IsAfterRun, IsWritten}
-use Rattle.hib_top.specs.Auditing.{status_said}
+use Rattle.hib_call.specs.Ends.{IsAfterRun, IsTextTold}
+use Rattle.hib_top.specs.Auditing.{IsVerdictTold, status_said}
 
 -- the status says it, unless it could not be written
 abbrev IsSaid : Status → Audit → Type 0
@@ -14,9 +14,22 @@ IsSaid answer a = (answer ≡ status_said a) ⊎ ((answer ≡ Status.WriteFault)
 pub is_said : (a : Audit) → IsSaid (status_said a) a
 is_said a = inl refl
 
-pub said_written : (a : Audit) (text : List ℕ) (taken written : Option (List ℕ)) → IsWritten Status.Done text taken written → IsWritten (status_said a) text taken written
+pub said_written : (a : Audit) (text : List ℕ) (taken written : Option (List ℕ)) → IsTextTold Status.Done text taken written → IsVerdictTold (status_said a) text taken written
 said_written Audit.Legal text taken written w = w
 said_written (Audit.Illegal entry kind) text taken written w = w
+
+-- it could not be written
+pub front_written : (answer : Status) (text : List ℕ) (taken written : Option (List ℕ)) → IsTextTold answer text taken written → IsVerdictTold answer text taken written
+front_written Status.Done text taken written w = w
+front_written (Status.Illegal n k) text taken written w = absurd w
+front_written Status.Usage text taken written w = w
+front_written (Status.Refused r) text taken written w = w
+front_written Status.ReadFault text taken written w = w
+front_written Status.WriteFault text taken written w = w
+front_written Status.TooLong text taken written w = w
+front_written (Status.Torn t) text taken written w = w
+front_written Status.NoMemory text taken written w = w
+front_written Status.StoreFault text taken written w = w
 
 pub said_after : (a : Audit) → IsAfterRun (status_said a)
 said_after Audit.Legal = tt

@@ -4,8 +4,7 @@ use Rattle.hib_journal.specs.Types.{Script}
 use Rattle.hib_listeners.specs.Told.{Told}
 use Rattle.hib_outside.specs.Causes.{Rose}
 use Rattle.hib_journal.specs.Kept.{past}
-use Rattle.hib_core.specs.Standing.{Origin, RoseBy}
-use Rattle.hib_joined.specs.Joined.{AreApart}
+use Rattle.hib_core.specs.Standing.{Origin, RoseBy, told_start}
 use Rattle.hib_merge.specs.declared.tearing.Torn.{Torn}
 use Rattle.hib_store.specs.Stores.{is_store_fault}
 use Rattle.hib_store.specs.declared.store.OpenFault.{OpenFault}
@@ -28,7 +27,7 @@ pub over : (turns : Turns) (script : Script) (old new : Shared) (run : Played) (
     ComesBy turns script old new outcome
 over turns script old new run outcome e r f = subst (ComesBy turns script old new) (sym e) (r, f)
 
-torn_not_fault : (torn : Torn) → Status.Torn torn ≡ Status.StoreFault → ⊥
+pub torn_not_fault : (torn : Torn) → Status.Torn torn ≡ Status.StoreFault → ⊥
 torn_not_fault torn e = cc
 
 pub stopped : (turns : Turns) (script : Script) (old new : Shared) (run : Played) (outcome : Outcome Played) → outcome ≡ Outcome.Stopped Status.NoMemory (Some run) → IsRun turns true script old new run →
@@ -40,10 +39,6 @@ stopped (Turns.OnParts n) script old new run outcome e r = subst (ComesBy (Turns
 -- of a run over parts nothing is there
 pub lost : (n : ℕ) (script : Script) (old new : Shared) (outcome : Outcome Played) → outcome ≡ Outcome.Stopped Status.NoMemory None → RoseBy old.faults 0 new.faults → ComesBy (Turns.OnParts n) script old new outcome
 lost n script old new outcome e r = subst (ComesBy (Turns.OnParts n) script old new) (sym e) (r, tt, λ p. absurd (not_fault p))
-
-pub torn : (n : ℕ) (script : Script) (old new : Shared) (t : Torn) (outcome : Outcome Played) → outcome ≡ Outcome.Stopped (Status.Torn t) None → 2 ≤ n → AreApart t → RoseBy old.faults 0 new.faults →
-    ComesBy (Turns.OnParts n) script old new outcome
-torn n script old new t outcome e two apart r = subst (ComesBy (Turns.OnParts n) script old new) (sym e) ((two, apart, r), tt, λ p. absurd (torn_not_fault t p))
 
 -- a run that is over, or that memory ran out in, is told as no other
 pub over_not_torn : (run : Played) (t : Torn) (outcome : Outcome Played) → outcome ≡ Outcome.Over run → outcome ≡ Outcome.Stopped (Status.Torn t) None → ⊥

@@ -1,6 +1,7 @@
 -- The audit of a journal that comes after its script.
 use Rattle.std.specs.Prelude.{◌≡◌, ◌↔◌, ◌⊎◌, ℕ, List, length, Some, None, Option, ◌++◌, codes}
 use Rattle.std.specs.Fmt.{decimal}
+use Rattle.std.specs.Io.KnownBytes.{Appends}
 use Rattle.hib_journal.specs.Kept.{past}
 use Rattle.hib_journal.specs.Legal.{IsLegal}
 use Rattle.hib_audit.specs.declared.verdict.Audit.{Audit}
@@ -11,7 +12,7 @@ use Rattle.hib_input.specs.declared.with_journal.WithJournal.{WithJournal}
 use Rattle.hib_call.specs.declared.status.Status.{Status}
 use Rattle.hib_call.specs.Command.{Command}
 use Rattle.hib_call.specs.Limits.{max_journal}
-use Rattle.hib_call.specs.Ends.{IsWritten}
+use Rattle.hib_call.specs.Ends.{IsTextTold}
 use Rattle.hib_call.specs.Outside.{Shared}
 use Rattle.hib_call.specs.StatusLine.{illegal_text}
 use Rattle.hib_top.specs.declared.audit.Judged.{Judged}
@@ -33,10 +34,15 @@ abbrev pub status_said : Audit → Status
 status_said Audit.Legal = Status.Done
 status_said (Audit.Illegal entry kind) = Status.Illegal entry kind
 
+-- the line is written whole also if the status says that the journal isn't legal
+abbrev pub IsVerdictTold : Status → List ℕ → Option (List ℕ) → Option (List ℕ) → Type 0
+IsVerdictTold (Status.Illegal n k) text old new = Appends old new text
+IsVerdictTold answer text old new = IsTextTold answer text old new
+
 pub record Tells (judged : Judged) (answer : Status) (taken written : Option (List ℕ)) : Type 0 where
   -- the status says it too, unless it could not be written
   pub said : (answer ≡ status_said judged.audit) ⊎ ((answer ≡ Status.WriteFault) ⊎ (answer ≡ Status.NoMemory))
-  pub text : IsWritten answer (verdict_text judged.count judged.audit) taken written
+  pub text : IsVerdictTold answer (verdict_text judged.count judged.audit) taken written
 
 -- ---- the command
 abbrev pub auditing : Command WithJournal Judged

@@ -4,7 +4,7 @@ use Rattle.hib_journal.specs.Types.{Script}
 use Rattle.hib_make.specs.Made.{made}
 use Rattle.hib_print.specs.Printed.{printed}
 use Rattle.hib_call.specs.Command.{Command}
-use Rattle.hib_call.specs.Ends.{IsWritten}
+use Rattle.hib_call.specs.Ends.{IsTextTold}
 use Rattle.hib_top.specs.declared.turns.Turns.{Turns}
 use Rattle.hib_top.specs.declared.telling.Telling.{Telling}
 use Rattle.hib_top.specs.declared.telling.Played.{Played}
@@ -28,5 +28,5 @@ printing n = record {
   has_form = λ text. ⊤;
   leaves = λ script old new run. (run ≡ script) × (new ≡ old);
   stops = λ script old new answer run. ⊥;
-  tells = λ run answer taken written. IsWritten answer (printed run) taken written;
+  tells = λ run answer taken written. IsTextTold answer (printed run) taken written;
 }

@@ -13,7 +13,7 @@ use Rattle.hib_journal.specs.Runs.{IsNumbered, told_committed, name_identifiers,
 use Rattle.hib_law.specs.Law.{Obeys}
 use Rattle.hib_split_law.specs.Merged.{AreDue}
 use Rattle.hib_joined.specs.Joined.{AreApart}
-use Rattle.hib_joined.specs.Run.{AreInOrder}
+use Rattle.hib_joined.specs.Run.{AreInOrder, HaveParted}
 use Rattle.hib_core.specs.Bound.{max_entries, outside_count}
 use Rattle.hib_core.specs.Standing.{RoseBy, RoseWithin, told_start}
 use Rattle.hib_report.specs.Report.{report, summary}
@@ -25,7 +25,7 @@ use Rattle.hib_script.specs.Script.{script_of}
 use Rattle.hib_call.specs.declared.status.Status.{Status}
 use Rattle.hib_call.specs.Command.{Command}
 use Rattle.hib_call.specs.Limits.{max_script}
-use Rattle.hib_call.specs.Ends.{IsWritten}
+use Rattle.hib_call.specs.Ends.{IsTextTold}
 use Rattle.hib_call.specs.Outside.{Shared}
 use Rattle.hib_call.specs.Runs.{AreHandedBack, IsUnrun, most_asked}
 use Rattle.hib_top.specs.declared.turns.Turns.{Turns}
@@ -77,10 +77,11 @@ pub record IsRun (turns : Turns) (short : Bool) (script : Script) (old new : Sha
   pub listeners : AreHandedBack short run.journal.list old.told new.told
 
 -- a run didn't come to its end: memory ran out, on the way or before the first step, or the keeper didn't take the script's rows. Over
--- parts no journal is there then, and nothing is said of the rows; with two workers or more they may be torn, and then two entities,
--- entries or ticks differ
+-- parts no journal is there then, and nothing is said of the rows; with two workers or more they may be torn. Then two entities differ, and
+-- nothing more is said; or two entries or ticks, and they are where lists of the parts and of the sessions part first
 abbrev pub Stops : Turns → Script → Shared → Shared → Status → Option Played → Type 0
-Stops (Turns.OnParts n) script old new (Status.Torn torn) None = (2 ≤ n) × AreApart torn × RoseBy old.faults 0 new.faults
+Stops (Turns.OnParts n) script old new (Status.Torn torn) None =
+    (2 ≤ n) × AreApart torn × HaveParted script (told_start script old.tables) torn × RoseBy old.faults 0 new.faults
 Stops (Turns.OnParts n) script old new Status.NoMemory None = RoseBy old.faults 0 new.faults
 Stops turns script old new Status.NoMemory (Some run) = IsRun turns true script old new run
 Stops turns script old new Status.NoMemory None = IsUnrun old new
@@ -94,7 +95,7 @@ told_by Telling.JsonLines script es = json_lines script es
 told_by (Telling.Summary n) script es = codes "seed " ++ decimal n ++ codes "\n" ++ summary script es
 
 pub record Tells (telling : Telling) (run : Played) (answer : Status) (taken written : Option (List ℕ)) : Type 0 where
-  pub report : IsWritten answer (told_by telling run.script run.journal.list) taken written
+  pub report : IsTextTold answer (told_by telling run.script run.journal.list) taken written
   -- JSON lines that are written, whole or in part, are of well-formed entries: then they are read back as these entries
   pub tellable : telling ≡ Telling.JsonLines → AreEntries run.script run.journal.list ⊎ ((answer ≡ Status.NoMemory) × (written ≡ taken))
 

@@ -1,7 +1,7 @@
 // How a run is told.
 ghost use Rattle.std.specs.Prelude.{◌++◌, ◌≡◌, ◌⊎◌, codes, IfOk};
 ghost use Rattle.std.specs.Fmt.{decimal};
-ghost use Rattle.hib_call.specs.Ends.{IsAfterRun, IsWritten};
+ghost use Rattle.hib_call.specs.Ends.{IsAfterRun, IsTextTold};
 ghost use Rattle.hib_json_lines.specs.Line.{json_lines};
 ghost use Rattle.hib_outside.specs.Causes.{Rose};
 ghost use Rattle.hib_report.specs.Report.{report, summary};

@@ -217,7 +217,8 @@ impl OptionName {
     fn help<'a>(self) -> &'a str {
         match self {
             OptionName::Journal => "Writes the journal as JSON lines in place of the report",
-            OptionName::File => "Keeps the store in the SQLite file PATH, and not in memory",
+            OptionName::File =>
+                "Takes the rows of the SQLite file PATH, in place of rows in memory",
             OptionName::Trace => "Tells each step on standard error",
             OptionName::Workers => "Runs the sessions on N workers, 1 to 64",
             OptionName::Split => "Puts each part behind a lock of its own, and not all behind one",

@@ -9,7 +9,7 @@ mod tools;
 mod topics;
 mod words;
 
-pub use texts::{TOOLS_VERSION, VERSION, help, tools_help};
+pub use texts::{VERSION, help, tools_help};
 pub use tools::{Tool, file_of_tool, read_tool};
 pub use topics::{Topic, topic_asked};
 pub use words::{Command, Options, read};

@@ -35,6 +35,10 @@ Bulk changes and their schedule stand after a line 'bulk', behind the script:
 Where sessions are, and their schedule with deliveries, stand after a line 'nodes', behind the script:
   hib nodes < examples/sections/twins.hib
 
+Behind the word 'tools' stand the words that read what these have written, and find the orders of
+sessions that end badly:
+  hib tools --help
+
 The words --help and --version stand alone: beside another word they are no command.
 
 Exit status, which a line on standard error explains if it isn't 0:
@@ -86,12 +90,6 @@ Why a line of a script is refused, at status 3:
 docs/SCRIPT.md tells what a script may say, docs/JOURNAL.md what a report says, docs/CLAIMS.md what is proved.
 ";
 
-/// The tools' name, the project, and the toolchain that they are proved with.
-pub const TOOLS_VERSION: &str = "hib_tools 0.1
-Zughvarti, sessions over a second-level cache, with a proof
-proved with a Rattle kit of logic dac8208d650f15bf
-";
-
 const ABOUT_TOOLS: &str =
     "Finds the orders of sessions that end badly, and writes journals as data.";
 
@@ -99,25 +97,25 @@ const AFTER_TOOLS_HELP: &str = "
 A script comes by standard input. Its sessions are played in every order with at most N switches, the
 orders with the fewest first; its schedule isn't used. A switch is a place where a session is left that
 comes again later:
-  hib_tools orders --switches 1 < examples/stale.hib
+  hib tools orders --switches 1 < examples/stale.hib
 Each finding has a number, and the schedule of one order that has it, with the fewest switches. The
 script with that schedule is written by:
-  hib_tools orders --switches 1 --show 1 < examples/stale.hib > found.hib
+  hib tools orders --switches 1 --show 1 < examples/stale.hib > found.hib
 With --kills the orders are tried too in which sessions are killed between their steps, so many at most:
-  hib_tools orders --switches 1 --kills 1 < examples/stale.hib
+  hib tools orders --switches 1 --kills 1 < examples/stale.hib
 Of a journal as JSON lines, behind its script and a line 'journal', the report is written that
 'hib play' would have written:
   hib work --workers 4 --journal < examples/shop.hib > lines
-  (cat examples/shop.hib; echo journal; cat lines) | hib_tools report
+  (cat examples/shop.hib; echo journal; cat lines) | hib tools report
 The same input is read by four more words. 'flat' writes the journal for jq and notebooks, 'schedule' the
 script by which 'hib play' repeats it, 'spans' a trace that Perfetto opens, 'states' what each entry of a
 legal journal has changed, and why what was refused was:
-  (cat examples/shop.hib; echo journal; cat lines) | hib_tools flat --csv
-  (cat examples/shop.hib; echo journal; cat lines) | hib_tools schedule > again.hib
-  (cat examples/shop.hib; echo journal; cat lines) | hib_tools spans > trace.json
-  (cat examples/shop.hib; echo journal; cat lines) | hib_tools states > states.jsonl
+  (cat examples/shop.hib; echo journal; cat lines) | hib tools flat --csv
+  (cat examples/shop.hib; echo journal; cat lines) | hib tools schedule > again.hib
+  (cat examples/shop.hib; echo journal; cat lines) | hib tools spans > trace.json
+  (cat examples/shop.hib; echo journal; cat lines) | hib tools states > states.jsonl
 The rows of a file that 'hib play --file' has worked on, as lines of the script:
-  hib_tools rows --file shop.db < examples/shop.hib
+  hib tools rows --file shop.db < examples/shop.hib
 
 The words --help and --version stand alone: beside another word they are no command.
 
@@ -148,13 +146,13 @@ impl Verb {
             Verb::Collect => "hib collect",
             Verb::Bulk => "hib bulk",
             Verb::Nodes => "hib nodes",
-            Verb::Orders => "hib_tools orders",
-            Verb::Report => "hib_tools report",
-            Verb::Flat => "hib_tools flat",
-            Verb::Schedule => "hib_tools schedule",
-            Verb::Spans => "hib_tools spans",
-            Verb::States => "hib_tools states",
-            Verb::Rows => "hib_tools rows",
+            Verb::Orders => "hib tools orders",
+            Verb::Report => "hib tools report",
+            Verb::Flat => "hib tools flat",
+            Verb::Schedule => "hib tools schedule",
+            Verb::Spans => "hib tools spans",
+            Verb::States => "hib tools states",
+            Verb::Rows => "hib tools rows",
         }
     }
 
@@ -300,9 +298,9 @@ pub fn help(alloc: Global) -> Result<String, AllocError> {
 pub fn tools_help(alloc: Global) -> Result<String, AllocError> {
     let program = program(
         alloc,
-        "hib_tools",
+        "hib tools",
         ABOUT_TOOLS,
-        "hib_tools <COMMAND> [OPTIONS]",
+        "hib tools <COMMAND> [OPTIONS]",
     )?;
     help_of(alloc, program, &TOOL_VERBS, AFTER_TOOLS_HELP)
 }

@@ -1,4 +1,4 @@
-// What the words ask of the tools. hib_tools and hib_toolbox read them here.
+// What the words behind `tools` ask for. hib_run and hib_toolbox read them here.
 ghost use Rattle.std.specs.Prelude.{option_map, ◌≡◌, IfOk, map, string_bytes};
 ghost use Rattle.hib_words.specs.Matched.{chosen_of};
 ghost use Rattle.hib_words.specs.Tools.{file_in, number_if_any, tool_asked, tool_command};
@@ -135,7 +135,7 @@ pub fn read_tool(alloc: Global, words: &[String]) -> Result<Option<Tool>, AllocE
     Ok(tool_from(verb, &found))
 }
 
-/// The path of the file that these words name, if they name one; hib_tools opens it. The only error is want of memory.
+/// The path of the file that these words name, if they name one; hib_run opens it. The only error is want of memory.
 pub fn file_of_tool<'a>(alloc: Global, words: &'a [String]) -> Result<Option<&'a str>, AllocError>
     ensures { IfOk result (λ r. option_map (λ s. s.now) r
         ≡ file_in (map string_bytes words.entry.now)) }

@@ -1,6 +1,6 @@
-// Compares a run that is drawn from the states that `hib_tools states` tells with the same run by the page's own rules.
+// Compares a run that is drawn from the states that `hib tools states` tells with the same run by the page's own rules.
 //
-//   node tools/pages/tests/told.js TOOLS FOLDER ..        TOOLS is the program; each FOLDER has scripts NAME.hib, each with NAME.report
+//   node tools/pages/tests/told.js PROGRAM FOLDER ..      PROGRAM is the built one; each FOLDER has scripts NAME.hib, each with NAME.report
 //
 // After each entry: whatever it names, and whatever is told of; and some twenty times in a run the whole state. Of each run: what is said of
 // each entry, what is stale and why, and all lanes are the same, and so is what the panel draws of some of the entries, without a hole in it.
@@ -130,22 +130,22 @@ function checkRuns(file, script, journal, told) {
     const [here, there] = [own, run].map(one => page.drawPanel(one, at, null));
     totals.panels++;
     if (/undefined|NaN|\[object|null\b/.test(there)) fail(file, `the panel of entry ${at + 1} has a hole`);
-    if (!there.includes('hib_tools states')) fail(file, `the panel of entry ${at + 1} doesn't say who tells it`);
+    if (!there.includes('hib tools states')) fail(file, `the panel of entry ${at + 1} doesn't say who tells it`);
     same(file, `the panel of entry ${at + 1}`, here.replace(page.UNPROVED_NOTE, page.TOLD_NOTE), there);
   }
 }
 
-function toldOf(tools, file) {
+function toldOf(program, file) {
   const report = fs.readFileSync(file + '.report', 'utf8'), text = fs.readFileSync(file + '.hib', 'utf8'), script = page.readScript(text);
   const journal = page.readJournal(report, script);
   const lines = journal.entries.map(({ tick, session, part, act, reply }) => JSON.stringify({ act, part, reply, session, tick }));
-  const { stdout, stderr, status } = spawnSync(tools, ['states'], { input: `${text}journal\n${lines.join('\n')}\n`, encoding: 'utf8', maxBuffer: 1 << 30 });
+  const { stdout, stderr, status } = spawnSync(program, ['tools', 'states'], { input: `${text}journal\n${lines.join('\n')}\n`, encoding: 'utf8', maxBuffer: 1 << 30 });
   if (status !== 0) fail(file, `the states end with status ${status}: ${stderr}`);
   return { script, journal, told: page.readTold(stdout, journal.entries) };
 }
 
-function compare(tools, file) {
-  const { script, journal, told } = toldOf(tools, file);
+function compare(program, file) {
+  const { script, journal, told } = toldOf(program, file);
   if (!told) return;
   totals.runs++;
   totals.entries += journal.entries.length;
@@ -154,11 +154,11 @@ function compare(tools, file) {
   checkRuns(file, script, journal, told);
 }
 
-const [tools, ...folders] = process.argv.slice(2);
+const [program, ...folders] = process.argv.slice(2);
 for (const folder of folders) {
   for (const name of fs.readdirSync(folder).filter(one => one.endsWith('.hib')).sort()) {
     const file = path.join(folder, name.slice(0, -'.hib'.length));
-    if (fs.existsSync(file + '.report') && !page.readScript(fs.readFileSync(file + '.hib', 'utf8')).section) compare(tools, file);
+    if (fs.existsSync(file + '.report') && !page.readScript(fs.readFileSync(file + '.hib', 'utf8')).section) compare(program, file);
   }
 }
 console.log(`${totals.runs} runs, ${totals.entries} entries, ${totals.facts} facts, ${totals.causes} causes, ${totals.wholes} whole states, ` +

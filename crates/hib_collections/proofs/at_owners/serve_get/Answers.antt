@@ -25,7 +25,7 @@ returns-in_err-reply-clause-err g c =
     let rs = c.args.shared.now.regions.items in
     let u = c.args.gatherer.now in
     let s = number_of u.session in
-    err_all _ _ (leaves_same script j j x rs c.answer_at.new.regions.items u u refl c.in_err-reply.ensures.err (kept_same script u))
+    err_all _ _ (leaves_same script defs j j x rs c.answer_at.new.regions.items u u refl c.in_err-reply.ensures.err (kept_same script u))
 
 pub returns-in_err-list-clause-err : goal.returns-in_err-list-clause-err
 returns-in_err-list-clause-err g c =
@@ -37,7 +37,7 @@ returns-in_err-list-clause-err g c =
     let rs = c.args.shared.now.regions.items in
     let u = c.args.gatherer.now in
     let s = number_of u.session in
-    err_all _ _ (leaves_same script j j x rs c.answer_at.new.regions.items u u refl (c.in_ok-reply.ensures.still refl) (kept_same script u))
+    err_all _ _ (leaves_same script defs j j x rs c.answer_at.new.regions.items u u refl (c.in_ok-reply.ensures.still refl) (kept_same script u))
 
 pub serve_hit-requires-clause-run : goal.serve_hit-requires-clause-run
 serve_hit-requires-clause-run g c κs within =

@@ -25,7 +25,7 @@ returns-in_err-advance-clause-err g c =
     let u = c.args.gatherer.now in
     let s = number_of u.session in
     let v : Gatherer = record { session = c.advance.new.self; notes = u.notes } in
-    err_all _ _ (leaves_same script j j x rs rs u v refl refl
+    err_all _ _ (leaves_same script defs j j x rs rs u v refl refl
     (kept_by c.args.script.now script u v c.requires.script c.in_err-advance.ensures.number c.in_err-advance.ensures.err refl refl refl))
 
 pub returns-clause-ok : goal.returns-clause-ok

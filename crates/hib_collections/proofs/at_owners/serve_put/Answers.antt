@@ -24,7 +24,7 @@ returns-in_err-reply-clause-err g c =
     let rs = c.args.shared.now.regions.items in
     let u = c.args.gatherer.now in
     let s = number_of u.session in
-    err_all _ _ (leaves_same script j j x rs c.answer_at.new.regions.items u u refl c.in_err-reply.ensures.err (kept_same script u))
+    err_all _ _ (leaves_same script defs j j x rs c.answer_at.new.regions.items u u refl c.in_err-reply.ensures.err (kept_same script u))
 
 pub returns-clause-ok : goal.returns-clause-ok
 returns-clause-ok g c =

@@ -11,8 +11,8 @@ use Rattle.hib_engines.proofs.Outcomes.{err_all}
 use Rattle.hib_collections_law.specs.Gathered.{plain}
 use Rattle.hib_collections.specs.declared.members.Gatherer.{Gatherer}
 use Rattle.hib_collections.specs.Kept.{past}
-use Rattle.hib_collections.proofs.Left.{kept_by, kept_same, leaves_still}
-use Rattle.hib_collections.proofs.Served.{brings_so, plain_is, plain_serves, ready_at, taken_at}
+use Rattle.hib_collections.proofs.Left.{kept_by, kept_same, leaves_plain}
+use Rattle.hib_collections.proofs.Served.{brings_so, plain_is, plain_serves, ready_at, refused_at, taken_at}
 use Rattle.hib_collections.proofs.turns.serve_plain.Goals as goal
 
 pub returns-in_err-reply-clause-err : goal.returns-in_err-reply-clause-err
@@ -25,7 +25,8 @@ returns-in_err-reply-clause-err g c =
     let rs = c.args.shared.now.regions.items in
     let u = c.args.gatherer.now in
     let s = number_of u.session in
-    err_all _ _ (leaves_still script j j x c.answer.new.self rs u u refl c.in_err-reply.ensures.err (kept_same script u))
+    let r = refused_at script defs from j x rs c.args.script.now u c.args.act c.args.tick c.answer.new.self c.requires.script c.in_err-reply.ensures.refused c.requires.run c.requires.turn c.requires.tick in
+    err_all _ _ (leaves_plain script defs j j x c.answer.new.self rs u u c.args.act refl c.requires.due r (kept_same script u))
 
 pub returns-in_err-listed-clause-err : goal.returns-in_err-listed-clause-err
 returns-in_err-listed-clause-err g c =
@@ -37,7 +38,8 @@ returns-in_err-listed-clause-err g c =
     let rs = c.args.shared.now.regions.items in
     let u = c.args.gatherer.now in
     let s = number_of u.session in
-    err_all _ _ (leaves_still script j j x c.answer.new.self rs u u refl (c.in_ok-reply.ensures.still c.in_err-listed.ensures.fails) (kept_same script u))
+    let r = refused_at script defs from j x rs c.args.script.now u c.args.act c.args.tick c.answer.new.self c.requires.script (c.in_ok-reply.ensures.passed c.in_err-listed.ensures.fails) c.requires.run c.requires.turn c.requires.tick in
+    err_all _ _ (leaves_plain script defs j j x c.answer.new.self rs u u c.args.act refl c.requires.due r (kept_same script u))
 
 pub returns-in_err-advance-clause-err : goal.returns-in_err-advance-clause-err
 returns-in_err-advance-clause-err g c =
@@ -63,7 +65,8 @@ returns-in_err-advance-clause-err g c =
     let follows : Follows c.args.script.now u.session (own s (plain script j)) = subst (λ (z : Script). Follows z u.session (own s (plain script j))) (sym q) c.requires.turn.member.follows in
     let b : brings a ≡ true = brings_so (brings a) (λ p. false≢true (c.in_err-advance.ensures.room (own s (plain script j)) follows taken c.requires.ready p)) in
     let v : Gatherer = record { session = c.advance.new.self; notes = u.notes } in
-    err_all _ _ (leaves_still script j j x y rs u v refl (c.in_ok-reply.ensures.still b)
+    let refused = refused_at script defs from j x rs c.args.script.now u a c.args.tick y q (c.in_ok-reply.ensures.passed b) c.requires.run c.requires.turn c.requires.tick in
+    err_all _ _ (leaves_plain script defs j j x y rs u v a refl c.requires.due refused
     (kept_by c.args.script.now script u v q c.in_err-advance.ensures.number c.in_err-advance.ensures.err refl refl refl))
 
 pub returns-clause-ok : goal.returns-clause-ok

@@ -31,3 +31,7 @@ returns-clause-same g c =
 pub returns-clause-err : goal.returns-clause-err
 returns-clause-err g c =
     (came c.take_turn.new.gatherer c.requires.run c.requires.sessions (here c.requires.sessions c.number.view_is c.requires.known c.index_mut-gatherer.ensures.value) c.take_turn.ensures.ok c.take_turn.ensures.err).err
+
+pub returns-clause-counts : goal.returns-clause-counts
+returns-clause-counts g c =
+    (came c.take_turn.new.gatherer c.requires.run c.requires.sessions (here c.requires.sessions c.number.view_is c.requires.known c.index_mut-gatherer.ensures.value) c.take_turn.ensures.ok c.take_turn.ensures.err).counts

@@ -14,9 +14,35 @@ use Rattle.hib_nodes.specs.Queue.{other_node, queue_in}
 use Rattle.hib_nodes.specs.Shared.{SharedState, IsShared, IsTurn, Leaves, Serves}
 use Rattle.hib_nodes.specs.Standing.{IsTold, entry_on}
 use Rattle.hib_nodes.specs.Turns.{is_committed, keys_at}
-use Rattle.hib_nodes.proofs.Served.{asked_of, brings_so, entry_is, serves_of, taken_of}
+use Rattle.hib_nodes.proofs.Refused.{refused_none}
+use Rattle.hib_nodes.proofs.Served.{asked_of, brings_so, entry_is, refused_of, serves_of, taken_of}
 use Rattle.hib_nodes.proofs.Still.{leaves_of}
 use Rattle.hib_nodes.proofs.turns.serve.Goals as goal
+
+pub returns-in_err-keys-clause-err : goal.returns-in_err-keys-clause-err
+returns-in_err-keys-clause-err g c =
+    let script = g.N.Name.script in
+    let y = c.args.session.now in
+    let x : SharedState = record { parts = c.shared.inside.parts; queues = c.shared.inside.queues; journal = c.shared.inside.journal } in
+    let w : SharedState = record { parts = c.shared.inside.parts; queues = c.keys_due.new.queues; journal = c.shared.inside.journal } in
+    err_all _ _ (subst (λ (v : SharedState). Leaves script v w y y) c.shared.view_is
+    (leaves_of script script x w y y refl refl (refused_none script (past c.shared.inside.journal) (number_of y) x.parts x.parts refl) c.in_err-keys.ensures.same refl (λ mine f. f)))
+
+pub returns-in_err-reply-clause-err : goal.returns-in_err-reply-clause-err
+returns-in_err-reply-clause-err g c =
+    let script = g.N.Name.script in
+    let places = g.N.Name.places in
+    let from = g.N.Name.from in
+    let y = c.args.session.now in
+    let a = c.args.act in
+    let x : SharedState = record { parts = c.shared.inside.parts; queues = c.shared.inside.queues; journal = c.shared.inside.journal } in
+    let w : SharedState = record { parts = c.answer.new.self; queues = c.keys_due.new.queues; journal = c.shared.inside.journal } in
+    let h = past c.shared.inside.journal in
+    let shared : IsShared script places from x = subst (λ (v : SharedState). IsShared script places from v) (sym c.shared.view_is) c.requires.shared in
+    let tick : c.args.tick ≡ length h + 1 = subst (λ (v : SharedState). c.args.tick ≡ length (past v.journal) + 1) (sym c.shared.view_is) c.requires.tick in
+    let turn : IsTurn script h y a = subst (λ (v : SharedState). IsTurn script (past v.journal) y a) (sym c.shared.view_is) c.requires.turn in
+    let refused = refused_of c.args.script.now script places from c.args.node c.args.tick x y a c.answer.new.self c.requires.script c.requires.node tick shared turn c.in_err-reply.ensures.refused in
+    err_all _ _ (subst (λ (v : SharedState). Leaves script v w y y) c.shared.view_is (leaves_of script script x w y y refl refl refused c.in_ok-keys.ensures.same refl (λ mine f. f)))
 
 pub returns-in_err-advance-clause-err : goal.returns-in_err-advance-clause-err
 returns-in_err-advance-clause-err g c =
@@ -44,7 +70,8 @@ returns-in_err-advance-clause-err g c =
     let w : SharedState = record { parts = c.answer.new.self; queues = c.keys_due.new.queues; journal = c.shared.inside.journal } in
     let b : brings a ≡ true = brings_so (brings a) (λ p. false≢true (c.in_err-advance.ensures.room mine follows taken c.requires.ready p)) in
     err_all c.from_residual-in_err-advance.result _ (subst (λ (v : SharedState). Leaves script v w y z) c.shared.view_is
-    (leaves_of c.args.script.now script x w y z q refl (c.in_ok-reply.ensures.still b) c.in_ok-keys.ensures.same c.in_err-advance.ensures.number c.in_err-advance.ensures.err))
+    (leaves_of c.args.script.now script x w y z q refl
+    (refused_of c.args.script.now script places from c.args.node c.args.tick x y a c.answer.new.self q c.requires.node tick shared turn (c.in_ok-reply.ensures.passed b)) c.in_ok-keys.ensures.same c.in_err-advance.ensures.number c.in_err-advance.ensures.err))
 
 pub returns-clause-ok : goal.returns-clause-ok
 returns-clause-ok g c =

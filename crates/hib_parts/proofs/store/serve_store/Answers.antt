@@ -9,16 +9,16 @@ use Rattle.hib_parts.proofs.store.serve_store.Goals as goal
 pub enter_answer-requires-clause-due : goal.enter_answer-requires-clause-due
 enter_answer-requires-clause-due g c =
     let script = g.N.Name.script in
-    let s = store_on c.args.script.now script g.N.Name.from.tables (past c.args.list.now) c.number-number.result c.args.store.now c.serve.new.self c.args.worker.now c.prepared.new.worker c.in_ok-acts.acts.0 c.args.now c.in_ok-reply.reply
+    let s = store_on c.args.script.now script g.N.Name.from.tables (past c.args.list.now) c.number-number.result c.args.store.now c.serve.new.self c.args.worker.now c.prepared.new.worker c.in_ok-acts.acts.act c.args.now c.in_ok-reply.reply
     c.requires.script c.prepared.ensures.kept c.number-number.ensures c.requires.built c.requires.stands c.requires.due c.in_ok-acts.ensures.due c.requires.later c.in_ok-reply.ensures.answered c.in_ok-reply.ensures.asked in
-    fits_kept script c.args.worker.now c.prepared.new.worker c.in_ok-acts.acts.0 c.args.now c.in_ok-reply.reply c.prepared.ensures.kept s.fits
+    fits_kept script c.args.worker.now c.prepared.new.worker c.in_ok-acts.acts.act c.args.now c.in_ok-reply.reply c.prepared.ensures.kept s.fits
 
 pub returns-in_err-enter_answer-clause-counted : goal.returns-in_err-enter_answer-clause-counted
 returns-in_err-enter_answer-clause-counted g c =
     let script = g.N.Name.script in
-    let s = store_on c.args.script.now script g.N.Name.from.tables (past c.args.list.now) c.number-number.result c.args.store.now c.serve.new.self c.args.worker.now c.prepared.new.worker c.in_ok-acts.acts.0 c.args.now c.in_ok-reply.reply
+    let s = store_on c.args.script.now script g.N.Name.from.tables (past c.args.list.now) c.number-number.result c.args.store.now c.serve.new.self c.args.worker.now c.prepared.new.worker c.in_ok-acts.acts.act c.args.now c.in_ok-reply.reply
     c.requires.script c.prepared.ensures.kept c.number-number.ensures c.requires.built c.requires.stands c.requires.due c.in_ok-acts.ensures.due c.requires.later c.in_ok-reply.ensures.answered c.in_ok-reply.ensures.asked in
-    err_all c.from_residual-in_err-enter_answer.result _ (store_left c.args.store.now c.serve.new.self c.in_ok-acts.acts.0 c.args.worker.now.number s.part c.in_ok-reply.ensures.still
+    err_all c.from_residual-in_err-enter_answer.result _ (store_left c.args.store.now c.serve.new.self c.in_ok-acts.acts.act c.args.worker.now.number s.part c.in_ok-reply.ensures.still
     (λ b. false≢true (c.in_err-enter_answer.ensures.brings c.in_ok-acts.ensures.ready (s.small b) b)))
 
 pub returns-clause-entered : goal.returns-clause-entered
@@ -26,7 +26,7 @@ returns-clause-entered g c =
     let script = g.N.Name.script in
     let w = c.args.worker.now in
     let v = c.prepared.new.worker in
-    let a = c.in_ok-acts.acts.0 in
+    let a = c.in_ok-acts.acts.act in
     let r = c.in_ok-reply.reply in
     let s = store_on c.args.script.now script g.N.Name.from.tables (past c.args.list.now) c.number-number.result c.args.store.now c.serve.new.self w v a c.args.now r
     c.requires.script c.prepared.ensures.kept c.number-number.ensures c.requires.built c.requires.stands c.requires.due c.in_ok-acts.ensures.due c.requires.later c.in_ok-reply.ensures.answered c.in_ok-reply.ensures.asked in
@@ -43,7 +43,7 @@ returns-in-Some-clause-entered g c =
     let x = c.args.store.now in
     let w = c.args.worker.now in
     let v = c.prepared.new.worker in
-    let a = c.in_ok-acts.acts.0 in
+    let a = c.in_ok-acts.acts.act in
     let r = c.in-Some.replies.0 in
     let s = start_on script told (past c.args.list.now) c.number-number.result x w v a c.args.now r c.prepared.ensures.kept c.number-number.ensures c.requires.stands c.requires.due c.in_ok-acts.ensures.due
     c.requires.later (c.requires.unchanged (c.in-Some.ensures.unchanged refl)) (c.in-Some.ensures.clean refl) c.in-Some.ensures.given in
@@ -57,7 +57,7 @@ pub returns-clause-may : goal.returns-clause-may
 returns-clause-may g c =
     let w = c.args.worker.now in
     let v = c.prepared.new.worker in
-    let a = c.in_ok-acts.acts.0 in
+    let a = c.in_ok-acts.acts.act in
     let r = c.in_ok-reply.reply in
     may_change g.N.Name.script g.N.Name.from.tables (past c.args.list.now) (past c.enter_answer.new.list) c.number-number.result c.args.now c.args.store.now w v a r c.may_change_rows-changed.result c.prepared.ensures.kept c.number-number.ensures c.requires.stands
     (entry_here w v (past c.args.list.now) (past c.prepared.new.list) (past c.enter_answer.new.list) a c.args.now r c.prepared.ensures.kept c.prepared.ensures.list c.in_ok-enter_answer.ensures.list)
@@ -67,7 +67,7 @@ pub returns-in-Some-clause-may : goal.returns-in-Some-clause-may
 returns-in-Some-clause-may g c =
     let w = c.args.worker.now in
     let v = c.prepared.new.worker in
-    let a = c.in_ok-acts.acts.0 in
+    let a = c.in_ok-acts.acts.act in
     let r = c.in-Some.replies.0 in
     start_keeps g.N.Name.script g.N.Name.from.tables (past c.args.list.now) (past c.enter_both.new.list) w.number c.args.now a r
     (entry_here w v (past c.args.list.now) (past c.prepared.new.list) (past c.enter_both.new.list) a c.args.now r c.prepared.ensures.kept c.prepared.ensures.list c.in_ok-enter_both.ensures.list)

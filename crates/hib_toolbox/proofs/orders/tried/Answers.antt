@@ -1,4 +1,4 @@
-use Rattle.std.proofs.Common.{◌≡◌, ◌⊎◌, ◌≤◌, ◌^◌, ◌-◌, ℕ, [], refl, true, subst}
+use Rattle.std.proofs.Common.{◌≡◌, ◌⊎◌, ◌≤◌, ℕ, [], refl, true, subst}
 use Rattle.hib_order_law.specs.Orders.{onto}
 use Rattle.hib_order_stage.specs.Staged.{rows_at_start}
 use Rattle.hib_toolbox.proofs.Tried.{first_told, none_told}
@@ -10,7 +10,7 @@ returns-in-Ok g c = λ lent. (
     of = c.in-Ok.ensures.script;
     told = c.in-Ok.ensures.tried;
     few = subst (λ (n : ℕ). c.in-Ok.searched.told.findings.tried ≤ n) c.limit_of-limit.ensures c.in-Ok.ensures.limit;
-    whole = subst (λ (n : ℕ). (c.in-Ok.searched.told.whole ≡ true) ⊎ ((c.in-Ok.searched.told.findings.tried ≡ n) ⊎ (c.in-Ok.searched.told.played ≡ 2 ^ 64 - 1)))
+    whole = subst (λ (n : ℕ). (c.in-Ok.searched.told.whole ≡ true) ⊎ (c.in-Ok.searched.told.findings.tried ≡ n))
         c.limit_of-limit.ensures c.in-Ok.ensures.whole;
     none = none_told c.what_is_told_is_so.ensures.none c.args.script c.args.orders.kills c.args.orders.switches c.in-Ok.searched.told.whole c.in-Ok.searched.told.level
         c.in-Ok.searched.told.findings c.in-Ok.ensures.tried;

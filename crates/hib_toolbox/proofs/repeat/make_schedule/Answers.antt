@@ -5,8 +5,8 @@ use Rattle.hib_toolbox.proofs.repeat.make_schedule.Goals as goal
 pub returns-in-Ok : goal.returns-in-Ok
 returns-in-Ok c = λ lent. (
   is_repeated c.schedules_play_orders.ensures.whole c.whole_runs_come_again.ensures.again c.args.input.script c.args.input.journal.list
-      c.put_schedule.result.repeatable c.put_schedule.result.script
+      c.in-Ok.repeated.repeatable c.in-Ok.repeated.script
       (rw c.as_slice.ensures at (sym c.in-None.ensures))
-      (rw (c.in-Ok.ensures, c.as_slice-in-None.ensures) at c.put_schedule.ensures),
+      (rw c.as_slice-in-None.ensures at c.in-Ok.ensures),
   refl,
 )

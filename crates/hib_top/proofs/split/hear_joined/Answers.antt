@@ -1,14 +1,15 @@
-use Rattle.std.proofs.Common.{◌≡◌, Option, sym, subst, inl, inr}
+use Rattle.std.proofs.Common.{◌≡◌, ◌≤◌, Option, sym, subst, inl, inr}
 use Rattle.hib_base.specs.Tables.{Tables}
 use Rattle.hib_journal.specs.Kept.{past}
-use Rattle.hib_core.specs.Standing.{told_start}
+use Rattle.hib_core.specs.Standing.{RoseBy, told_start}
 use Rattle.hib_joined.specs.declared.joining.Joined.{Joined}
-use Rattle.hib_joined.specs.Run.{CameToOne, IsOneByOne, IsOneRun}
+use Rattle.hib_joined.specs.Joined.{AreApart}
+use Rattle.hib_joined.specs.Run.{CameToOne, HaveParted, IsOneByOne, IsOneRun}
 use Rattle.hib_top.specs.declared.telling.Played.{Played}
 use Rattle.hib_top.specs.declared.turns.Turns.{Turns}
 use Rattle.hib_top.specs.Running.{IsPlayed}
 use Rattle.hib_call.proofs.Runs.{none_failed}
-use Rattle.hib_top.proofs.Ends.{lost, over, over_not_torn, short_not_torn}
+use Rattle.hib_top.proofs.Ends.{lost, over, over_not_torn, short_not_torn, torn_not_fault}
 use Rattle.hib_top.proofs.OverParts.{is_finished, is_played}
 use Rattle.hib_top.proofs.split.hear_joined.Goals as goal
 
@@ -37,3 +38,15 @@ returns-in-One-clause-torn g c = λ t q. elim c.hear_run-outcome.ensures [
   | inl p ↦ absurd (over_not_torn _ t _ p.0 q)
   | inr e ↦ absurd (short_not_torn t _ e q)
 ]
+
+pub returns-in-Torn-clause-comes : goal.returns-in-Torn-clause-comes
+returns-in-Torn-clause-comes g c = λ kept q.
+    let n = c.args.workers in
+    let script = g.N.Name.script in
+    let from = g.N.Name.from in
+    let t = c.in-Torn.torn in
+    let failed = g.K.Keeper.faults c.args.keeper in
+    let came : (2 ≤ n) × AreApart t × HaveParted script from.tables t × RoseBy from.faults 0 failed =
+    subst (λ (z : Joined). CameToOne n script from z (g.K.Keeper.tables c.args.keeper) failed (g.K.Keeper.asked c.args.keeper)) c.in-Torn.is c.requires.came in
+    let parted : HaveParted script (told_start script kept) t = subst (λ (told : Option Tables). HaveParted script told t) (sym q) came.2 in
+    ((came.0, came.1, parted, came.3), tt, λ p. absurd (torn_not_fault t p))

@@ -1,20 +1,22 @@
 use Rattle.std.proofs.Common.{subst, ◌∙◌}
 use Rattle.hib_engines.proofs.Outcomes.{err_all, map_err, map_ok, map_on}
 use Rattle.hib_collections_law.specs.Types.{Gathered}
+use Rattle.hib_playing.specs.Playing.{Leads, play_each, played}
+use Rattle.hib_playing.proofs.Playing.{goes_by, goes_then, then_leads}
 use Rattle.hib_collections.specs.Kept.{past}
-use Rattle.hib_collections.specs.Played.{Leads, play_orders, played}
-use Rattle.hib_collections.proofs.Playing.{goes_by, goes_then, is_all_played, script_leads}
+use Rattle.hib_collections.specs.Played.{play_order, play_sessions}
+use Rattle.hib_collections.proofs.Playing.{all_of_it}
 use Rattle.hib_collections.proofs.gather.Gather.play.Goals as goal
 
 pub returns-clause-played : goal.returns-clause-played
 returns-clause-played g c = map_ok c.finish.result _ _ c.finish.ensures.played (λ r p e.
-    is_all_played g.N.Name.script g.N.Name.defs (past c.finish.new.self.journal)
-    (script_leads g.N.Name.script g.N.Name.defs _ (past c.follow_schedule.new.self.journal) (past c.finish.new.self.journal)
-    (subst (λ (h : Gathered). Leads (play_orders g.N.Name.script g.N.Name.defs g.N.Name.script.schedule) played h (past c.follow_schedule.new.self.journal)) e c.in_ok-follow_schedule.ensures.played) p))
+    all_of_it g.N.Name.script g.N.Name.defs (past c.finish.new.self.journal)
+    (then_leads (play_each (play_order g.N.Name.script g.N.Name.defs) g.N.Name.script.schedule) (play_sessions g.N.Name.script g.N.Name.defs) _ (past c.follow_schedule.new.self.journal) (past c.finish.new.self.journal)
+    (subst (λ (h : Gathered). Leads (play_each (play_order g.N.Name.script g.N.Name.defs) g.N.Name.script.schedule) played h (past c.follow_schedule.new.self.journal)) e c.in_ok-follow_schedule.ensures.played) p))
 
 pub returns-clause-leads : goal.returns-clause-leads
 returns-clause-leads g c = map_on c.finish.result _ _ c.finish.ensures.played (λ p.
-    script_leads g.N.Name.script g.N.Name.defs (past c.args.self.now.journal) (past c.follow_schedule.new.self.journal) (past c.finish.new.self.journal) c.in_ok-follow_schedule.ensures.played p)
+    then_leads (play_each (play_order g.N.Name.script g.N.Name.defs) g.N.Name.script.schedule) (play_sessions g.N.Name.script g.N.Name.defs) (past c.args.self.now.journal) (past c.follow_schedule.new.self.journal) (past c.finish.new.self.journal) c.in_ok-follow_schedule.ensures.played p)
 
 pub returns-clause-going : goal.returns-clause-going
 returns-clause-going g c = map_on c.finish.result _ _ c.finish.ensures.going (λ p. p ∙ c.in_ok-follow_schedule.ensures.going)
@@ -22,7 +24,7 @@ returns-clause-going g c = map_on c.finish.result _ _ c.finish.ensures.going (λ
 pub returns-clause-stands : goal.returns-clause-stands
 returns-clause-stands g c = map_err c.finish.result _ _ c.finish.ensures.stopped (λ p.
     goes_then (past c.args.self.now.journal) (past c.follow_schedule.new.self.journal) (past c.finish.new.self.journal)
-    (goes_by (play_orders g.N.Name.script g.N.Name.defs g.N.Name.script.schedule) played (past c.args.self.now.journal) (past c.follow_schedule.new.self.journal) c.in_ok-follow_schedule.ensures.played) p.stands)
+    (goes_by (play_each (play_order g.N.Name.script g.N.Name.defs) g.N.Name.script.schedule) played (past c.args.self.now.journal) (past c.follow_schedule.new.self.journal) c.in_ok-follow_schedule.ensures.played) p.stands)
 
 pub returns-clause-asked : goal.returns-clause-asked
 returns-clause-asked g c = map_err c.finish.result _ _ c.finish.ensures.stopped (λ p e. p.asked (c.in_ok-follow_schedule.ensures.going ∙ e))

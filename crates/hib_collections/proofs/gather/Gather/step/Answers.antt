@@ -5,8 +5,9 @@ use Rattle.hib_listeners.specs.Heard.{HaveHeard}
 use Rattle.hib_collections_law.specs.Gathered.{plain}
 use Rattle.hib_collections.specs.Gather.{GatherState, HasStepped, Hears, heard_in}
 use Rattle.hib_collections.specs.Kept.{past}
-use Rattle.hib_collections.specs.Run.{IsAskedOnceMore}
+use Rattle.hib_collections.specs.Run.{IsAskedOnceMore, IsStepRefused}
 use Rattle.hib_collections.proofs.Hearing.{first_off, further, goes_one, heard_none, heard_so, heard_turn, hears_same, hears_turn, moved, moved_at, none_ok, once_more, rested, stepped}
+use Rattle.hib_collections.proofs.Left.{refused_none}
 use Rattle.hib_collections.proofs.gather.Gather.step.Goals as goal
 
 pub returns-then-self-clause-fault : goal.returns-then-self-clause-fault
@@ -14,6 +15,25 @@ returns-then-self-clause-fault g c = λ x p _. absurd (further (past c.args.self
 
 pub returns-then-self-clause-hears : goal.returns-then-self-clause-hears
 returns-then-self-clause-hears g c = let h = plain g.N.Name.script (past c.args.self.now.journal) in heard_none h h _ c.args.self.now.told c.args.self.now.told refl refl
+
+pub returns-then-self-clause-counts : goal.returns-then-self-clause-counts
+returns-then-self-clause-counts g c =
+    let v = c.args.self.now in
+    let f : v.deaf ≡ v.deaf → IsStepRefused g.N.Name.script g.N.Name.defs (past v.journal) c.args.number v.engines v.engines =
+    λ _. refused_none g.N.Name.script g.N.Name.defs (past v.journal) c.args.number v.engines in
+    err_all c.idle_step.result _ f
+
+pub returns-in_err-turned-clause-asks_once : goal.returns-in_err-turned-clause-asks_once
+returns-in_err-turned-clause-asks_once g c = λ x p.
+    let same = c.in_err-turned.ensures.same ∙ ap (λ (v : GatherState). past v.journal) c.self.view_is in
+    absurd (further (past c.args.self.now.journal) x (sym same ∙ p))
+
+pub returns-in_err-turned-clause-counts : goal.returns-in_err-turned-clause-counts
+returns-in_err-turned-clause-counts g c =
+    let y = c.step-stepped.new.self.engines in
+    let f : c.self.inside.deaf ≡ c.args.self.now.deaf → IsStepRefused g.N.Name.script g.N.Name.defs (past c.args.self.now.journal) c.args.number c.args.self.now.engines y =
+    λ _. subst (λ (v : GatherState). IsStepRefused g.N.Name.script g.N.Name.defs (past v.journal) c.args.number v.engines y) c.self.view_is c.in_err-turned.ensures.counts in
+    err_all c.from_residual.result _ f
 
 pub returns-in_err-turned-clause-fault : goal.returns-in_err-turned-clause-fault
 returns-in_err-turned-clause-fault g c = λ x p _.
@@ -27,6 +47,12 @@ returns-in_err-turned-clause-hears g c =
 
 pub returns-then-is_done-clause-fault : goal.returns-then-is_done-clause-fault
 returns-then-is_done-clause-fault g c = λ x p _.
+    let rest = rested g.N.Name.script g.N.Name.defs c.args.number (past c.self.inside.core.journal) (past c.step-stepped.new.self.journal) c.self.inside.core.engines c.step-stepped.new.self.engines
+    c.in_ok-turned.turned (sym c.is_done.ensures ∙ c.if-is_done.true) c.in_ok-turned.ensures.does in
+    absurd (further (past c.args.self.now.journal) x (sym (rest.same ∙ ap (λ (v : GatherState). past v.journal) c.self.view_is) ∙ p))
+
+pub returns-then-is_done-clause-asks_once : goal.returns-then-is_done-clause-asks_once
+returns-then-is_done-clause-asks_once g c = λ x p.
     let rest = rested g.N.Name.script g.N.Name.defs c.args.number (past c.self.inside.core.journal) (past c.step-stepped.new.self.journal) c.self.inside.core.engines c.step-stepped.new.self.engines
     c.in_ok-turned.turned (sym c.is_done.ensures ∙ c.if-is_done.true) c.in_ok-turned.ensures.does in
     absurd (further (past c.args.self.now.journal) x (sym (rest.same ∙ ap (λ (v : GatherState). past v.journal) c.self.view_is) ∙ p))

@@ -29,8 +29,8 @@ none_killed : (n : ℕ) → is_unkilled n [] ≡ true
 none_killed zero = refl
 none_killed (suc n) = refl
 
-pub returns : goal.returns
-returns c = (
+pub returns-clause-played : goal.returns-clause-played
+returns-clause-played c = (
   [],
   record { undisturbed = record { legal = tt; numbered = tt; plain = refl }; over = none_next; few_kills = omega arith },
   none_begins c.args._begun.now c.requires,

@@ -13,15 +13,15 @@ pub enter_answer-requires-clause-due : goal.enter_answer-requires-clause-due
 enter_answer-requires-clause-due g c =
     let script = g.N.Name.script in
     let later = subst (λ (j : Journal). IsLater c.args.now j c.args.worker.now.list) (sym c.self.view_is) c.requires.later in
-    let s = begin_step script g.N.Name.from.tables (past c.self.inside.list) c.self.inside.last c.self.inside.registry c.serve.new.self c.args.worker.now c.in_ok-acts.acts.0 c.number-number.result c.args.now c.in_ok-reply.reply
+    let s = begin_step script g.N.Name.from.tables (past c.self.inside.list) c.self.inside.last c.self.inside.registry c.serve.new.self c.args.worker.now c.in_ok-acts.acts.act c.number-number.result c.args.now c.in_ok-reply.reply
     c.self.invariant.1 c.self.invariant.2 c.requires.due c.in_ok-acts.ensures.due c.number-number.ensures later c.in_ok-reply.ensures.answered in
-    fits_kept script c.args.worker.now c.prepared.new.worker c.in_ok-acts.acts.0 c.args.now c.in_ok-reply.reply c.prepared.ensures.kept s.step.fits
+    fits_kept script c.args.worker.now c.prepared.new.worker c.in_ok-acts.acts.act c.args.now c.in_ok-reply.reply c.prepared.ensures.kept s.step.fits
 
 pub invariant_of-self-in_err-enter_answer : goal.invariant_of-self-in_err-enter_answer
 invariant_of-self-in_err-enter_answer g c =
     let script = g.N.Name.script in
     let later = subst (λ (j : Journal). IsLater c.args.now j c.args.worker.now.list) (sym c.self.view_is) c.requires.later in
-    let s = begin_step script g.N.Name.from.tables (past c.self.inside.list) c.self.inside.last c.self.inside.registry c.serve.new.self c.args.worker.now c.in_ok-acts.acts.0 c.number-number.result c.args.now c.in_ok-reply.reply
+    let s = begin_step script g.N.Name.from.tables (past c.self.inside.list) c.self.inside.last c.self.inside.registry c.serve.new.self c.args.worker.now c.in_ok-acts.acts.act c.number-number.result c.args.now c.in_ok-reply.reply
     c.self.invariant.1 c.self.invariant.2 c.requires.due c.in_ok-acts.ensures.due c.number-number.ensures later c.in_ok-reply.ensures.answered in
     absurd (false≢true (c.in_err-enter_answer.ensures.brings c.in_ok-acts.ensures.ready s.small s.quiet))
 
@@ -31,7 +31,7 @@ invariant_of-self-2 g c =
     let told = g.N.Name.from.tables in
     let l = past c.self.inside.list in
     let w = c.args.worker.now in
-    let a = c.in_ok-acts.acts.0 in
+    let a = c.in_ok-acts.acts.act in
     let r = c.in_ok-reply.reply in
     let later = subst (λ (j : Journal). IsLater c.args.now j w.list) (sym c.self.view_is) c.requires.later in
     let s = begin_step script told l c.self.inside.last c.self.inside.registry c.serve.new.self w a c.number-number.result c.args.now r

@@ -12,8 +12,8 @@ pub enter_answer-requires-clause-due : goal.enter_answer-requires-clause-due
 enter_answer-requires-clause-due g c =
     let script = g.N.Name.script in
     let later = subst (λ (j : Journal). IsLater c.args.now j c.args.worker.now.list) (sym c.self.view_is) c.requires.later in
-    let s = end_step script g.N.Name.from.tables (past c.self.inside.list) c.self.inside.last c.args.worker.now c.in_ok-acts.acts.0 c.args.now c.args.reply c.self.invariant.1 c.requires.due c.in_ok-acts.ensures.due c.requires.reply later in
-    fits_kept script c.args.worker.now c.prepared.new.worker c.in_ok-acts.acts.0 c.args.now c.args.reply c.prepared.ensures.kept s.fits
+    let s = end_step script g.N.Name.from.tables (past c.self.inside.list) c.self.inside.last c.args.worker.now c.in_ok-acts.acts.act c.args.now c.args.reply c.self.invariant.1 c.requires.due c.in_ok-acts.ensures.due c.requires.reply later in
+    fits_kept script c.args.worker.now c.prepared.new.worker c.in_ok-acts.acts.act c.args.now c.args.reply c.prepared.ensures.kept s.fits
 
 pub invariant_of-self-2 : goal.invariant_of-self-2
 invariant_of-self-2 g c =
@@ -21,7 +21,7 @@ invariant_of-self-2 g c =
     let told = g.N.Name.from.tables in
     let l = past c.self.inside.list in
     let w = c.args.worker.now in
-    let a = c.in_ok-acts.acts.0 in
+    let a = c.in_ok-acts.acts.act in
     let r = c.args.reply in
     let later = subst (λ (j : Journal). IsLater c.args.now j w.list) (sym c.self.view_is) c.requires.later in
     let s = end_step script told l c.self.inside.last w a c.args.now r c.self.invariant.1 c.requires.due c.in_ok-acts.ensures.due c.requires.reply later in

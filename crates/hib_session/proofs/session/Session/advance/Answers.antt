@@ -35,11 +35,12 @@ returns-clause-follows c = λ mine f t.
     let ok : is_settled script s.control ≡ true = settled_ready script s c.in_ok-ready.ensures.ready in
     let n : next script s.control.number mine ≡ Some e.act = subst (λ m. next script m mine ≡ Some e.act) (sym c.in_ok-ready.ensures.number) t.due in
     let fit : Fits c.replace-copies.result e.act = subst (λ w. Fits w e.act) (sym c.replace-copies.ensures.value) (fits_due script s mine e.act g ok n) in
+    let o : is_over script s.control ≡ false = left_over script s.control mine e.act g.stands ok n in
     let k : Knows c.note.new.self (e ∷ mine) = subst (λ x. Knows x (e ∷ mine)) (sym (c.in_ok-note.ensures.ok fit)) (knows_room _ _ _ (knows_noted s.memory mine e g.knows)) in
     let h : Stands script c.step.new.self (e ∷ mine) = c.step.ensures.stands script e mine
     (λ go q d. c.in_ok-queue.ensures.follows mine go q d (recalls_next script s.control s.memory mine e g.knows g.stands ok n q d)
     (subst (λ o. Ends script s.control.mode (e ∷ mine) o) (sym c.replace-ending.ensures.value) (g.ending (e ∷ mine) (recalls_next script s.control s.memory mine e g.knows g.stands ok n q d))))
-    g.stands ok in
+    g.stands ok o in
     follows_on script c.args.self.now (record { control = c.step.new.self; memory = c.note.new.self; copies = c.replace-copies.new.dest; ending = c.replace-ending.new.dest; killed = s.killed }) mine e f t
     (c.step.ensures.number ∙ c.in_ok-ready.ensures.number) c.in_ok-ready.ensures.killed k h c.replace-copies.ensures.after c.replace-ending.ensures.after
 
