@@ -33,11 +33,13 @@ function noteExpired({ node, entry, at }) {
   if (isOfCache(entry) && cause && !node.unsound.has(entry.key)) node.unsound.set(entry.key, { at, cause });
 }
 
-// A load that says something else than the state is believed, so that a run over a file with rows of its own can be drawn too.
-function believe({ state, entry }) {
+// A load that says something else than the state is believed, if it is a row of the entity or none, so that a run over a file with rows of
+// its own can be drawn too.
+function believe({ state, entity, entry }) {
   if (entry.part !== 'store' || entry.verb !== 'load') return;
+  const told = /^row (v.*)$/.exec(entry.reply), row = told && rowOf(tokensOf(told[1]));
   if (entry.reply === 'none') state.committed.delete(entry.key);
-  else state.committed.set(entry.key, { row: rowOf(tokensOf(entry.reply.slice('row '.length))), at: NEVER, by: null });
+  else if (row && row.cells.length === entity.columns.length) state.committed.set(entry.key, { row, at: NEVER, by: null });
 }
 
 // The store may answer a fault whenever it is asked.
