@@ -1,6 +1,6 @@
 // What the parts answer.
 ghost use Rattle.hib_base.specs.declared.replies.Reply.{Reply};
-ghost use Rattle.std.specs.Prelude.{◌≡◌, IfOk};
+ghost use Rattle.std.specs.Prelude.{◌≡◌, IfOk, Option};
 
 use crate::numbers::{EntityNo, Key, QueryNo, Tick};
 use crate::rows::{Listing, Row, copy_cells};
