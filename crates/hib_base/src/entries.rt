@@ -1,4 +1,5 @@
 // The entries of a journal: who did what on which part, and what was answered.
+ghost use Rattle.hib_base.specs.declared.entries.Act.{Act};
 ghost use Rattle.std.specs.Prelude.{◌≡◌, IfOk};
 
 use crate::numbers::{EntityNo, Key, QueryNo, SessionNo, Tick};
@@ -25,7 +26,7 @@ pub enum Part {
 
 /// What is done to a part, in one atomic step. In all of these, `time` is the tick at which the transaction of the
 /// session began, and `floor` is the least time among the sessions that were open then, its own among them.
-#[derive(Drop, PartialEq, Eq)]
+#[derive(PartialEq, Eq)]
 pub enum Act {
     /// A transaction begins.
     Begin,
@@ -175,6 +176,62 @@ pub enum Act {
     },
 }
 
+// By hand: so a function that lets an act go has one call for it, and not a case for each variant.
+impl Drop for Act {
+    fn drop(self) {
+        match self {
+            Act::Begin => {}
+            Act::End => {}
+            Act::Kill { session: _ } => {}
+            Act::Restart => {}
+            Act::Find { key: _ } => {}
+            Act::Persist { key: _, row: _ } => {}
+            Act::Set { key: _, cells: _ } => {}
+            Act::Remove { key: _ } => {}
+            Act::Clear => {}
+            Act::Load { key: _ } => {}
+            Act::List { query: _ } => {}
+            Act::Write(_) => {}
+            Act::Commit => {}
+            Act::Rollback => {}
+            Act::Pre { tables: _ } => {}
+            Act::Stamp { tables: _ } => {}
+            Act::Check { query: _, time: _ } => {}
+            Act::Look { query: _ } => {}
+            Act::Keep {
+                query: _,
+                time: _,
+                list: _,
+            } => {}
+            Act::Get { key: _, time: _ } => {}
+            Act::Put {
+                key: _,
+                row: _,
+                time: _,
+                floor: _,
+            } => {}
+            Act::Lock {
+                key: _,
+                version: _,
+                floor: _,
+            } => {}
+            Act::Unlock { key: _, lock: _ } => {}
+            Act::AfterInsert {
+                key: _,
+                row: _,
+                floor: _,
+            } => {}
+            Act::AfterUpdate {
+                key: _,
+                lock: _,
+                row: _,
+            } => {}
+            Act::RegionRemove { key: _ } => {}
+            Act::Evict { key: _ } => {}
+        }
+    }
+}
+
 /// One atomic step.
 #[derive(Drop, PartialEq, Eq)]
 pub struct Entry {
@@ -190,6 +247,75 @@ pub struct Entry {
     pub reply: Reply,
 }
 
+// The acts that own memory, each made of a copy by itself: so the copy of an act lets go of one thing at most.
+
+fn persisted(alloc: Global, key: Key, row: &Row) -> Result<Act, AllocError>
+    ensures { IfOk result (λ a. a ≡ Act.Persist key row.now) }
+{
+    let row = row.copy(alloc)?;
+    Ok(Act::Persist { key, row })
+}
+
+fn set(alloc: Global, key: Key, cells: &Sets) -> Result<Act, AllocError>
+    ensures { IfOk result (λ a. a ≡ Act.Set key cells.now) }
+{
+    let cells = copy_sets(alloc, cells)?;
+    Ok(Act::Set { key, cells })
+}
+
+fn written(alloc: Global, change: &Change) -> Result<Act, AllocError>
+    ensures { IfOk result (λ a. a ≡ Act.Write change.now) }
+{
+    Ok(Act::Write(change.copy(alloc)?))
+}
+
+fn announced(alloc: Global, tables: &Names) -> Result<Act, AllocError>
+    ensures { IfOk result (λ a. a ≡ Act.Pre tables.now) }
+{
+    let tables = copy_names(alloc, tables)?;
+    Ok(Act::Pre { tables })
+}
+
+fn stamped(alloc: Global, tables: &Names) -> Result<Act, AllocError>
+    ensures { IfOk result (λ a. a ≡ Act.Stamp tables.now) }
+{
+    let tables = copy_names(alloc, tables)?;
+    Ok(Act::Stamp { tables })
+}
+
+fn kept(alloc: Global, query: QueryNo, time: Tick, list: &Listing) -> Result<Act, AllocError>
+    ensures { IfOk result (λ a. a ≡ Act.Keep query time list.now) }
+{
+    let list = copy_cells(alloc, list)?;
+    Ok(Act::Keep { query, time, list })
+}
+
+fn put(alloc: Global, key: Key, row: &Row, time: Tick, floor: Tick) -> Result<Act, AllocError>
+    ensures { IfOk result (λ a. a ≡ Act.Put key row.now time floor) }
+{
+    let row = row.copy(alloc)?;
+    Ok(Act::Put {
+        key,
+        row,
+        time,
+        floor,
+    })
+}
+
+fn inserted(alloc: Global, key: Key, row: &Row, floor: Tick) -> Result<Act, AllocError>
+    ensures { IfOk result (λ a. a ≡ Act.AfterInsert key row.now floor) }
+{
+    let row = row.copy(alloc)?;
+    Ok(Act::AfterInsert { key, row, floor })
+}
+
+fn updated(alloc: Global, key: Key, lock: Tick, row: &Row) -> Result<Act, AllocError>
+    ensures { IfOk result (λ a. a ≡ Act.AfterUpdate key lock row.now) }
+{
+    let row = row.copy(alloc)?;
+    Ok(Act::AfterUpdate { key, lock, row })
+}
+
 impl Act {
     /// An equal act. Fails for want of memory alone.
     pub fn copy(&self, alloc: Global) -> Result<Act, AllocError>
@@ -201,37 +327,23 @@ impl Act {
             Act::Kill { session } => Ok(Act::Kill { session: *session }),
             Act::Restart => Ok(Act::Restart),
             Act::Find { key } => Ok(Act::Find { key: *key }),
-            Act::Persist { key, row } => Ok(Act::Persist {
-                key: *key,
-                row: row.copy(alloc)?,
-            }),
-            Act::Set { key, cells } => Ok(Act::Set {
-                key: *key,
-                cells: copy_sets(alloc, cells)?,
-            }),
+            Act::Persist { key, row } => persisted(alloc, *key, row),
+            Act::Set { key, cells } => set(alloc, *key, cells),
             Act::Remove { key } => Ok(Act::Remove { key: *key }),
             Act::Clear => Ok(Act::Clear),
             Act::Load { key } => Ok(Act::Load { key: *key }),
             Act::List { query } => Ok(Act::List { query: *query }),
-            Act::Write(change) => Ok(Act::Write(change.copy(alloc)?)),
+            Act::Write(change) => written(alloc, change),
             Act::Commit => Ok(Act::Commit),
             Act::Rollback => Ok(Act::Rollback),
-            Act::Pre { tables } => Ok(Act::Pre {
-                tables: copy_names(alloc, tables)?,
-            }),
-            Act::Stamp { tables } => Ok(Act::Stamp {
-                tables: copy_names(alloc, tables)?,
-            }),
+            Act::Pre { tables } => announced(alloc, tables),
+            Act::Stamp { tables } => stamped(alloc, tables),
             Act::Check { query, time } => Ok(Act::Check {
                 query: *query,
                 time: *time,
             }),
             Act::Look { query } => Ok(Act::Look { query: *query }),
-            Act::Keep { query, time, list } => Ok(Act::Keep {
-                query: *query,
-                time: *time,
-                list: copy_cells(alloc, list)?,
-            }),
+            Act::Keep { query, time, list } => kept(alloc, *query, *time, list),
             Act::Get { key, time } => Ok(Act::Get {
                 key: *key,
                 time: *time,
@@ -241,12 +353,7 @@ impl Act {
                 row,
                 time,
                 floor,
-            } => Ok(Act::Put {
-                key: *key,
-                row: row.copy(alloc)?,
-                time: *time,
-                floor: *floor,
-            }),
+            } => put(alloc, *key, row, *time, *floor),
             Act::Lock {
                 key,
                 version,
@@ -260,16 +367,8 @@ impl Act {
                 key: *key,
                 lock: *lock,
             }),
-            Act::AfterInsert { key, row, floor } => Ok(Act::AfterInsert {
-                key: *key,
-                row: row.copy(alloc)?,
-                floor: *floor,
-            }),
-            Act::AfterUpdate { key, lock, row } => Ok(Act::AfterUpdate {
-                key: *key,
-                lock: *lock,
-                row: row.copy(alloc)?,
-            }),
+            Act::AfterInsert { key, row, floor } => inserted(alloc, *key, row, *floor),
+            Act::AfterUpdate { key, lock, row } => updated(alloc, *key, *lock, row),
             Act::RegionRemove { key } => Ok(Act::RegionRemove { key: *key }),
             Act::Evict { key } => Ok(Act::Evict { key: *key }),
         }

@@ -1,5 +1,6 @@
 // What the parts answer.
-ghost use Rattle.std.specs.Prelude.{◌≡◌, IfOk};
+ghost use Rattle.hib_base.specs.declared.replies.Reply.{Reply};
+ghost use Rattle.std.specs.Prelude.{◌≡◌, IfOk, Option};
 
 use crate::numbers::{EntityNo, Key, QueryNo, Tick};
 use crate::rows::{Listing, Row, copy_cells};
@@ -182,7 +183,7 @@ pub enum Evicted {
 }
 
 /// What was answered to an act.
-#[derive(Drop, PartialEq, Eq)]
+#[derive(PartialEq, Eq)]
 pub enum Reply {
     /// To a begin.
     Began {
@@ -262,7 +263,54 @@ pub enum Reply {
     Evicted(Evicted),
 }
 
+// By hand: so a function that lets a reply go has one call for it, and not a case for each variant.
+impl Drop for Reply {
+    fn drop(self) {
+        match self {
+            Reply::Began { floor: _ } => {}
+            Reply::Ended { outcome: _ } => {}
+            Reply::Done => {}
+            Reply::Row(_) => {}
+            Reply::New => {}
+            Reply::Known => {}
+            Reply::Set => {}
+            Reply::Unknown => {}
+            Reply::ReadOnly => {}
+            Reply::Removed => {}
+            Reply::Cleared => {}
+            Reply::Listed(_) => {}
+            Reply::Fault => {}
+            Reply::Written => {}
+            Reply::Commit(_) => {}
+            Reply::Stamped { value: _ } => {}
+            Reply::Check(_) => {}
+            Reply::Found { time: _, list: _ } => {}
+            Reply::Absent => {}
+            Reply::Kept { dropped: _ } => {}
+            Reply::Hit(_) => {}
+            Reply::Miss(_) => {}
+            Reply::Put(_) => {}
+            Reply::Locked(_) => {}
+            Reply::Unlocked(_) => {}
+            Reply::Inserted(_) => {}
+            Reply::Updated(_) => {}
+            Reply::Dropped => {}
+            Reply::Evicted(_) => {}
+        }
+    }
+}
+
 impl Reply {
+    /// The row that a find or a load is answered, if there is one; none of any other reply.
+    pub fn into_row(self) -> Option<Row>
+        ensures { (row : Option Row) → self ≡ Reply.Row row → result ≡ row }
+    {
+        match self {
+            Reply::Row(row) => row,
+            _ => None,
+        }
+    }
+
     /// An equal reply. Fails for want of memory alone.
     pub fn copy(&self, alloc: Global) -> Result<Reply, AllocError>
         ensures { IfOk result (λ r. r ≡ self.now) }

@@ -16,7 +16,7 @@ pub type Bytes = Seq<u8>;
 pub type Text = Seq<u8>;
 
 /// A value in a column of a row.
-#[derive(Drop, PartialEq, Eq)]
+#[derive(PartialEq, Eq)]
 pub enum Cell {
     /// A number, or the identifier of a row that is referred to.
     Int(i64),
@@ -26,6 +26,17 @@ pub enum Cell {
     Bool(bool),
 }
 
+// By hand, as for the two below: so a function that lets one go has one call for it, and not what it is made of.
+impl Drop for Cell {
+    fn drop(self) {
+        match self {
+            Cell::Int(_) => {}
+            Cell::Text(_) => {}
+            Cell::Bool(_) => {}
+        }
+    }
+}
+
 /// The cells of a row, one for each column.
 pub type Cells = Shared<Cell>;
 
@@ -33,7 +44,7 @@ pub type Cells = Shared<Cell>;
 pub type Listing = Shared<Cell>;
 
 /// A row of an entity.
-#[derive(Drop, PartialEq, Eq)]
+#[derive(PartialEq, Eq)]
 pub struct Row {
     /// Its version, if its entity is versioned.
     pub version: Option<u32>,
@@ -41,11 +52,20 @@ pub struct Row {
     pub cells: Cells,
 }
 
+impl Drop for Row {
+    fn drop(self) {
+        let Row {
+            version: _,
+            cells: _,
+        } = self;
+    }
+}
+
 /// Rows with their keys.
 pub type Rows = Seq<(Key, Row)>;
 
 /// What a transaction does to one row.
-#[derive(Drop, PartialEq, Eq)]
+#[derive(PartialEq, Eq)]
 pub enum Change {
     /// A new row, if there is none.
     Insert {
@@ -70,6 +90,23 @@ pub enum Change {
         /// The version that the row is expected to have.
         expected: Option<u32>,
     },
+}
+
+impl Drop for Change {
+    fn drop(self) {
+        match self {
+            Change::Insert { key: _, row: _ } => {}
+            Change::Update {
+                key: _,
+                expected: _,
+                row: _,
+            } => {}
+            Change::Delete {
+                key: _,
+                expected: _,
+            } => {}
+        }
+    }
 }
 
 /// Changes in the order in which they were written.
@@ -232,8 +269,16 @@ impl Change {
         ensures { result ≡ row_left self }
     {
         match self {
-            Change::Insert { row, .. } | Change::Update { row, .. } => Some(row),
-            Change::Delete { .. } => None,
+            Change::Insert { key: _, row } => Some(row),
+            Change::Update {
+                key: _,
+                expected: _,
+                row,
+            } => Some(row),
+            Change::Delete {
+                key: _,
+                expected: _,
+            } => None,
         }
     }
 

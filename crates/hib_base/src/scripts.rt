@@ -52,7 +52,6 @@ pub enum ColumnType {
 }
 
 /// A column of an entity.
-#[derive(Drop)]
 pub struct ColumnDef {
     /// Its name, which no other column of the entity has.
     pub name: Text,
@@ -63,11 +62,21 @@ pub struct ColumnDef {
     pub default: Option<Cell>,
 }
 
+// By hand, as for those below: so a function that lets one go has one call for it, and not what it is made of.
+impl Drop for ColumnDef {
+    fn drop(self) {
+        let ColumnDef {
+            name: _,
+            kind: _,
+            default: _,
+        } = self;
+    }
+}
+
 /// An entity's columns, in order.
 pub type Columns = Seq<ColumnDef>;
 
 /// An entity of the mapping.
-#[derive(Drop)]
 pub struct EntityDef {
     /// Its name, which no other entity has.
     pub name: Text,
@@ -79,6 +88,18 @@ pub struct EntityDef {
     pub capacity: u32,
     /// Its columns: 1 to 16.
     pub columns: Columns,
+}
+
+impl Drop for EntityDef {
+    fn drop(self) {
+        let EntityDef {
+            name: _,
+            strategy: _,
+            versioned: _,
+            capacity: _,
+            columns: _,
+        } = self;
+    }
 }
 
 /// The entities, in order of declaration.
@@ -230,7 +251,6 @@ pub enum Select {
 }
 
 /// A named query.
-#[derive(Drop)]
 pub struct Query {
     /// Its name, which no other query has.
     pub name: Text,
@@ -248,6 +268,21 @@ pub struct Query {
     pub limit: u32,
     /// What is listed of them.
     pub select: Select,
+}
+
+impl Drop for Query {
+    fn drop(self) {
+        let Query {
+            name: _,
+            cached: _,
+            entity: _,
+            condition: _,
+            order: _,
+            offset: _,
+            limit: _,
+            select: _,
+        } = self;
+    }
 }
 
 impl Query {
@@ -317,7 +352,6 @@ impl Mode {
 }
 
 /// What a session is told to do.
-#[derive(Drop)]
 pub enum Statement {
     /// Finds a row: the session's own, or from the cache, or else from the store.
     Find {
@@ -363,6 +397,23 @@ pub enum Statement {
     Rollback,
 }
 
+impl Drop for Statement {
+    fn drop(self) {
+        match self {
+            Statement::Find { key: _ } => {}
+            Statement::Persist { key: _, cells: _ } => {}
+            Statement::Set { key: _, cells: _ } => {}
+            Statement::Remove { key: _ } => {}
+            Statement::List { query: _ } => {}
+            Statement::Flush => {}
+            Statement::Clear => {}
+            Statement::Mode { mode: _ } => {}
+            Statement::Commit => {}
+            Statement::Rollback => {}
+        }
+    }
+}
+
 /// A session's statements, in order.
 pub type Statements = Seq<Statement>;
 
@@ -406,7 +457,6 @@ pub enum Order {
 pub type Orders = Seq<Order>;
 
 /// A script: the mapping, the first rows, the queries, the sessions, and in which order they act.
-#[derive(Drop)]
 pub struct Script {
     /// For how many ticks a soft lock is good: 1 to 1,000,000.
     pub timeout: u32,
@@ -422,4 +472,18 @@ pub struct Script {
     pub sessions: Sessions,
     /// In which order they act; after it each session goes on to its end, one after the other.
     pub schedule: Orders,
+}
+
+impl Drop for Script {
+    fn drop(self) {
+        let Script {
+            timeout: _,
+            results: _,
+            mapping: _,
+            rows: _,
+            queries: _,
+            sessions: _,
+            schedule: _,
+        } = self;
+    }
 }

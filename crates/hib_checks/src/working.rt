@@ -138,7 +138,7 @@ fn recorder(alloc: Global) -> Result<Vec<Recorder>, AllocError> {
 }
 
 /// Runs the top call with one listener, and says what came of it.
-fn listened<R: Threads + Wait + Sync, K: Keeper + Drop, G: Gate>(
+fn listened<R: Threads + Wait + Sync, K: Keeper + Send + Drop, G: Gate>(
     rt: &R,
     alloc: Global,
     words: &[String],
@@ -153,7 +153,7 @@ fn listened<R: Threads + Wait + Sync, K: Keeper + Drop, G: Gate>(
 }
 
 /// Runs a script by these words over a keeper.
-fn work<R: Threads + Wait + Sync, K: Keeper + Drop, G: Gate>(
+fn work<R: Threads + Wait + Sync, K: Keeper + Send + Drop, G: Gate>(
     rt: &R,
     alloc: Global,
     script: &[u8],

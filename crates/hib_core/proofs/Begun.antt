@@ -11,7 +11,8 @@ use Rattle.hib_core.specs.Factory.{Lawful, CoreState, IsStanding}
 pub standing_begins : Lawful → (script : Script) (from : Origin) (x : CoreState) → is_valid script ≡ true → IsBuilt script → Rattle.hib_journal.specs.Kept.past x.journal ≡ [] →
     AreStanding script from.tables [] x.engines → x.engines.store.entities ≡ length script.mapping → from.faults ≤ x.engines.store.faults → x.engines.store.asked ≡ from.asked → AreSessions script [] x.sessions → IsStanding script from x
 standing_begins w script from x v b e p n f a s = record {
-  run = rw e (record { legal = tt; law = w script from.tables [] tt; numbered = tt; engines = p; entities = n; faults = omega (arith, f); valid = v; built = b });
+  valid = v;
+  run = rw e (record { legal = tt; law = w script from.tables [] tt; numbered = tt; engines = p; entities = n; faults = omega (arith, f); built = b });
   sessions = rw e s;
   asked = λ u. rw e (record { later = omega (arith, a); few = omega (arith, a) });
 }

@@ -32,7 +32,6 @@ goes_outside w script from h a r x y run o m v calm f n l = record {
   engines = v.standing;
   entities = n ∙ run.entities;
   faults = rose_more from.faults (fault_count h) x.store.faults (cond (is_fault r) 1 0) y.store.faults run.faults none;
-  valid = run.valid;
   built = run.built;
 }
   where

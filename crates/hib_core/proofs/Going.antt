@@ -69,7 +69,6 @@ goes_on w script from h s a r x y run live p inside v later i fault l = record {
   engines = v.standing;
   entities = i ∙ run.entities;
   faults = rose_more from.faults (fault_count h) x.store.faults (cond (is_fault r) 1 0) y.store.faults run.faults (rose_if r x.store.faults y.store.faults later fault);
-  valid = run.valid;
   built = run.built;
 }
   where
@@ -120,7 +119,6 @@ run_still script from h x y run u i = record {
   engines = still_standing script from.tables h x y u run.engines;
   entities = i ∙ run.entities;
   faults = rose_on from.faults (fault_count h) x.store.faults y.store.faults run.faults u.store.faults;
-  valid = run.valid;
   built = run.built;
 }
 

@@ -41,7 +41,7 @@ pub record FactoryState : Type 0 where
 abbrev pub Lawful : Type 0
 Lawful = (script : Script) (told : Option Tables) (h : Journal) → IsLegal script told h → Obeys script told h
 
--- the script is valid, and the journal legal, so that it obeys the law, with its ticks in turn, the engines stand for it, the store has an
+-- the journal is legal, so that it obeys the law, with its ticks in turn, the engines stand for it, the store has an
 -- index of the script's entities, and the keeper has failed as often as it says
 pub record IsRun (script : Script) (from : Origin) (h : Journal) (x : EnginesState) : Type 0 where
   pub legal : IsLegal script from.tables h
@@ -50,7 +50,6 @@ pub record IsRun (script : Script) (from : Origin) (h : Journal) (x : EnginesSta
   pub engines : AreStanding script from.tables h x
   pub entities : x.store.entities ≡ length script.mapping
   pub faults : RoseBy from.faults (fault_count h) x.store.faults
-  pub valid : is_valid script ≡ true
   pub built : IsBuilt script
 
 -- the keeper was asked no more often than the journal says
@@ -62,6 +61,7 @@ abbrev pub IsAskedOnceMore : Origin → Journal → EnginesState → Type 0
 IsAskedOnceMore from h x = RoseWithin from.asked (ask_count h + 1) x.store.asked
 
 pub record IsStanding (script : Script) (from : Origin) (x : CoreState) : Type 0 where
+  pub valid : is_valid script ≡ true
   pub run : IsRun script from (past x.journal) x.engines
   pub sessions : AreSessions script (past x.journal) x.sessions
   -- unless memory ran out in a call

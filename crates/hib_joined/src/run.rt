@@ -49,7 +49,7 @@ pub struct JoinedRun<K> {
 /// has none. At an error the keeper is handed back, with the rows that it had. If the run is torn, or memory ran out
 /// after it began, the keeper comes back with the rows of the commits that were made so far. It may wait for other
 /// threads.
-pub fn run_joined<R: Threads + Wait + Sync, K: Keeper, N: Name + Send + Sync, G: Gate>(
+pub fn run_joined<R: Threads + Wait + Sync, K: Keeper + Send, N: Name + Send + Sync, G: Gate>(
     rt: &R,
     alloc: Global,
     script: &Script,

@@ -7,8 +7,6 @@ mod endings;
 mod footings;
 mod judging;
 mod laying;
-#[cfg(test)]
-mod tests;
 mod tests_of;
 
 pub use endings::ending;

@@ -9,8 +9,6 @@ mod laws;
 mod openings;
 mod player;
 mod tail;
-#[cfg(test)]
-mod tests;
 mod trying;
 mod waiting;
 

@@ -60,7 +60,7 @@ pub enum Applied {
 }
 
 /// Keeps tables. At any error they are as before, and Failed comes only if the count of faults rose.
-pub trait Keeper: Send {
+pub trait Keeper {
     /// Its tables, if it tells them.
     ghost tables: { Self → Option Tables };
 

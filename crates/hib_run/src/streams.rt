@@ -9,7 +9,7 @@ use std::thread::Threads;
 
 /// Does what the words say over this keeper: the script comes by standard input, the text goes to standard output.
 /// Answers how that ended, and hands the keeper back.
-pub fn serve_over<R: Threads + Wait + Sync, K: Keeper>(
+pub fn serve_over<R: Threads + Wait + Sync, K: Keeper + Send>(
     rt: &R,
     host: &HostRuntime,
     words: &[String],

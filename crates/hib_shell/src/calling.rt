@@ -40,7 +40,7 @@ pub fn listeners_asked(
 /// Calls the top call with the words, over these streams and what is lent, and no gate holds a worker back. It ends as
 /// the top call does, and leaves the streams and the keeper as that does. What was run is let go, and so are the
 /// listeners that stayed.
-pub fn call<R: Threads + Wait + Sync, S: Source, W: Sink, K: Keeper, L: Listener>(
+pub fn call<R: Threads + Wait + Sync, S: Source, W: Sink, K: Keeper + Send, L: Listener>(
     rt: &R,
     alloc: Global,
     words: &[String],

@@ -6,8 +6,6 @@ mod events;
 mod kept;
 mod members;
 mod services;
-#[cfg(test)]
-mod tests;
 
 pub use events::perfetto;
 pub use services::jaeger;

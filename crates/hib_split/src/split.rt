@@ -37,7 +37,7 @@ use std::thread::Threads;
 /// was asked for. If they differ, `strange` says so, the rest isn't run, and there are no lists. If memory runs out, or
 /// no tick is left, the steps so far stand. It may wait for other threads.
 #[tactic(auto, using(crate::proofs::Failed::told_fewer))]
-pub fn work_split<R: Threads + Wait + Sync, K: Keeper, N: Name + Send + Sync, G: Gate>(
+pub fn work_split<R: Threads + Wait + Sync, K: Keeper + Send, N: Name + Send + Sync, G: Gate>(
     rt: &R,
     alloc: Global,
     parts: Parts<K, N>,

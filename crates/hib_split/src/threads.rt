@@ -18,7 +18,7 @@ use std::thread::Threads;
 
 /// Puts each part behind a lock of its own, has the threads step the sessions, and takes the parts out again. There
 /// must be room for what that needs.
-pub fn on_threads<R: Threads + Wait + Sync, K: Keeper, N: Name + Send + Sync, G: Gate>(
+pub fn on_threads<R: Threads + Wait + Sync, K: Keeper + Send, N: Name + Send + Sync, G: Gate>(
     rt: &R,
     alloc: Global,
     parts: Parts<K, N>,
@@ -53,7 +53,7 @@ fn may_be_shared<T: Sync>()
 {}
 
 /// Has `workers` threads step the sessions.
-fn take_turns<R: Threads + Wait + Sync, K: Keeper, N: Name + Send + Sync, G: Gate>(
+fn take_turns<R: Threads + Wait + Sync, K: Keeper + Send, N: Name + Send + Sync, G: Gate>(
     rt: &R,
     alloc: Global,
     locked: &LockedParts<K, N>,

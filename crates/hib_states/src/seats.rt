@@ -93,8 +93,8 @@ fn find(
         → row ≡ row_of (held mine key)) }
 {
     match session.reply_to(alloc, script, &Act::Find { key }) {
-        Ok(Some(Reply::Row(row))) => Ok(row),
-        Ok(_) => Ok(None),
+        Ok(Some(reply)) => Ok(reply.into_row()),
+        Ok(None) => Ok(None),
         Err(error) => Err(error),
     }
 }

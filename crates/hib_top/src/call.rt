@@ -96,7 +96,7 @@ fn serve_alone<S: Source, W: Sink, K: Keeper, L: Listener>(
 }
 
 /// Does what a command asks, `work` on threads.
-fn serve<R: Threads + Wait + Sync, S: Source, W: Sink, K: Keeper, G: Gate, L: Listener>(
+fn serve<R: Threads + Wait + Sync, S: Source, W: Sink, K: Keeper + Send, G: Gate, L: Listener>(
     rt: &R,
     alloc: Global,
     command: &Command,
@@ -179,7 +179,7 @@ pub fn play_words<S: Source, W: Sink, K: Keeper, L: Listener>(
 /// `--split` each part stands behind a lock of its own: a tick is the one that is due, by the last ones of its part and
 /// of its session, and the listeners hear of the entries after the run. If memory runs out in the run, or it is torn,
 /// no run is handed back, and nothing is said of the keeper's rows, of how often it was asked and of the listeners.
-pub fn top<R: Threads + Wait + Sync, S: Source, W: Sink, K: Keeper, G: Gate, L: Listener>(
+pub fn top<R: Threads + Wait + Sync, S: Source, W: Sink, K: Keeper + Send, G: Gate, L: Listener>(
     rt: &R,
     alloc: Global,
     words: &[String],

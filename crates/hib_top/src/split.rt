@@ -116,7 +116,13 @@ fn without_lists<K: Keeper>(run: JoinedRun<K>) -> (Joined, K)
 }
 
 /// Runs a script over the parts of the factory of this name, each under a lock of its own.
-fn split_named<N: Name + Send + Sync, R: Threads + Wait + Sync, K: Keeper, L: Listener, G: Gate>(
+fn split_named<
+    N: Name + Send + Sync,
+    R: Threads + Wait + Sync,
+    K: Keeper + Send,
+    L: Listener,
+    G: Gate,
+>(
     rt: &R,
     alloc: Global,
     script: Script,
@@ -143,7 +149,7 @@ fn split_named<N: Name + Send + Sync, R: Threads + Wait + Sync, K: Keeper, L: Li
 
 /// Runs a script over parts under locks of their own, each session to its end. The listeners hear of the entries after
 /// the run. If memory runs out, or the run is torn, there is no journal.
-pub fn split_script<R: Threads + Wait + Sync, K: Keeper, L: Listener, G: Gate>(
+pub fn split_script<R: Threads + Wait + Sync, K: Keeper + Send, L: Listener, G: Gate>(
     rt: &R,
     alloc: Global,
     script: Script,

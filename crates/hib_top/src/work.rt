@@ -23,7 +23,13 @@ use std::sync::Wait;
 use std::thread::Threads;
 
 /// Runs a script over what is lent on workers, in the factory of this name.
-fn work_named<N: Name + Send + Sync, R: Threads + Wait + Sync, K: Keeper, L: Listener, G: Gate>(
+fn work_named<
+    N: Name + Send + Sync,
+    R: Threads + Wait + Sync,
+    K: Keeper + Send,
+    L: Listener,
+    G: Gate,
+>(
     rt: &R,
     alloc: Global,
     script: Script,
@@ -66,7 +72,7 @@ fn work_named<N: Name + Send + Sync, R: Threads + Wait + Sync, K: Keeper, L: Lis
 
 /// Runs a script over what is lent on workers, each session to its end. If memory runs out the journal so far stands.
 /// The listeners hear of each entry.
-pub fn work_script<R: Threads + Wait + Sync, K: Keeper, L: Listener, G: Gate>(
+pub fn work_script<R: Threads + Wait + Sync, K: Keeper + Send, L: Listener, G: Gate>(
     rt: &R,
     alloc: Global,
     script: Script,

@@ -35,13 +35,13 @@ const STEPS: u32 = 64;
 /// the factory's lock. If the gate holds nobody, it passes it once and keeps the lock for up to 64 steps, of a session
 /// and of those that it takes after that. What they leave undone is done here once they have ended. Once memory has run
 /// out no further step is made.
-pub fn work<R: Threads + Wait + Sync, K: Keeper, N: Name + Send + Sync, L: Listener, G: Gate>(
-    rt: &R,
-    alloc: Global,
-    factory: Factory<K, N, L>,
-    workers: u32,
-    gate: &G,
-) -> Worked<K, N, L>
+pub fn work<
+    R: Threads + Wait + Sync,
+    K: Keeper + Send,
+    N: Name + Send + Sync,
+    L: Listener,
+    G: Gate,
+>(rt: &R, alloc: Global, factory: Factory<K, N, L>, workers: u32, gate: &G) -> Worked<K, N, L>
     requires workers { (1 ≤ workers) × (workers ≤ max_workers) }
     requires inside { outside_count (past factory.journal) ≡ 0 }
     ensures worked { IsWorked N.script N.from factory result.factory }
@@ -57,7 +57,7 @@ pub fn work<R: Threads + Wait + Sync, K: Keeper, N: Name + Send + Sync, L: Liste
 fn work_from<
     H: Handed + Send + Sync,
     R: Threads + Wait + Sync,
-    K: Keeper,
+    K: Keeper + Send,
     N: Name + Send + Sync,
     L: Listener,
     G: Gate,
@@ -128,7 +128,7 @@ impl<K: Keeper, N: Name, L: Listener, H: Handed> Bench<K, N, L, H> {
 fn on_threads<
     H: Handed + Send + Sync,
     R: Threads + Wait + Sync,
-    K: Keeper,
+    K: Keeper + Send,
     N: Name + Send + Sync,
     L: Listener,
     G: Gate,
@@ -157,7 +157,7 @@ fn may_be_sent<T: Send>()
 fn take_turns<
     H: Handed + Send + Sync,
     R: Threads + Wait + Sync,
-    K: Keeper,
+    K: Keeper + Send,
     N: Name + Send + Sync,
     L: Listener,
     G: Gate,

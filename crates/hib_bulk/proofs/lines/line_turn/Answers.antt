@@ -16,13 +16,13 @@ returns-in_default-clause-done g c i =
     ∙ (ap (λ (s : Script). slice_get (acts_of s c.args.number c.args.line.now) c.args.progress.now.steps) (sym c.requires.script) ∙ sym c.in_default.ensures.act)
 
 pub answer_line-requires-clause-locks : goal.answer_line-requires-clause-locks
-answer_line-requires-clause-locks g c κs within n e =
+answer_line-requires-clause-locks g c n e =
     few_hold g.N.Name.script g.N.Name.lines g.N.Name.from.tables (past c.args.journal.now) c.args.number c.args.line.now c.args.progress.now.steps c.args.progress.now.failed c.in-Some.act c.args.parts.now
     (turn_of_line c.args.script.now g.N.Name.script g.N.Name.lines g.N.Name.from (past c.args.journal.now) c.args.number c.args.line.now c.args.progress.now.steps c.args.progress.now.failed c.in-Some.act
     c.args.parts.now c.requires.script c.requires.run c.requires.known c.requires.line c.in-Some.ensures.act c.requires.stands c.in_ok-tick.ensures.few) n e
 
 pub answer_line-requires-clause-unlocks : goal.answer_line-requires-clause-unlocks
-answer_line-requires-clause-unlocks g c κs within n e =
+answer_line-requires-clause-unlocks g c n e =
     one_holds g.N.Name.script g.N.Name.lines g.N.Name.from.tables (past c.args.journal.now) c.args.number c.args.line.now c.args.progress.now.steps c.args.progress.now.failed c.in-Some.act c.args.parts.now
     (turn_of_line c.args.script.now g.N.Name.script g.N.Name.lines g.N.Name.from (past c.args.journal.now) c.args.number c.args.line.now c.args.progress.now.steps c.args.progress.now.failed c.in-Some.act
     c.args.parts.now c.requires.script c.requires.run c.requires.known c.requires.line c.in-Some.ensures.act c.requires.stands c.in_ok-tick.ensures.few) c.regions_are_given_back.ensures.back n e

@@ -7,7 +7,7 @@ use Rattle.hib_bulk.proofs.Stepped.{line_at, def_at, line_turned}
 use Rattle.hib_bulk.proofs.steps.step_line.Goals as goal
 
 pub line_turn-requires-clause-stands : goal.line_turn-requires-clause-stands
-line_turn-requires-clause-stands g c κs within =
+line_turn-requires-clause-stands g c =
     let script = g.N.Name.script in
     let lines = g.N.Name.lines in
     let h = past c.args.journal.now in

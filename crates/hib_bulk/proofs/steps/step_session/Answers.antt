@@ -9,7 +9,7 @@ use Rattle.hib_bulk.proofs.Stepped.{turned, session_at}
 use Rattle.hib_bulk.proofs.steps.step_session.Goals as goal
 
 pub take_turn-requires-clause-follows : goal.take_turn-requires-clause-follows
-take_turn-requires-clause-follows g c κs within =
+take_turn-requires-clause-follows g c =
     let script = g.N.Name.script in
     let h = past c.args.journal.now in
     let xs = c.args.sessions.now.items in

@@ -5,7 +5,7 @@ use Rattle.hib_bulk.proofs.Moved.{turn_of, old_of, moves_of}
 use Rattle.hib_bulk.proofs.turns.take_turn.Goals as goal
 
 pub serve-requires-clause-swept : goal.serve-requires-clause-swept
-serve-requires-clause-swept g c κs within = λ k p.
+serve-requires-clause-swept g c = λ k p.
     let turn : IsTurn g.N.Name.script (past c.args.journal.now) c.ready.new.self c.in-Some.act =
     turn_of c.args.script.now g.N.Name.script (past c.args.journal.now) c.args.session.now c.ready.new.self c.in_ok-act.field-0 c.in-Some.act c.requires.script
     c.in_ok-ready.ensures.number c.requires.known c.requires.follows c.in_ok-ready.ensures.follows c.in_ok-act.ensures.act c.in_ok-act.ensures.due c.in-Some.is in

@@ -40,7 +40,7 @@ returns-in_err-list-clause-err g c =
     err_all _ _ (leaves_same script defs j j x rs c.answer_at.new.regions.items u u refl (c.in_ok-reply.ensures.still refl) (kept_same script u))
 
 pub serve_hit-requires-clause-run : goal.serve_hit-requires-clause-run
-serve_hit-requires-clause-run g c κs within =
+serve_hit-requires-clause-run g c =
     let script = g.N.Name.script in
     let defs = g.N.Name.defs in
     let from = g.N.Name.from in
@@ -52,7 +52,7 @@ serve_hit-requires-clause-run g c κs within =
     subst (λ zs. IsRun script defs from j x zs) (sym (c.in_ok-reply.ensures.still refl)) c.requires.run
 
 pub serve_hit-requires-clause-answered : goal.serve_hit-requires-clause-answered
-serve_hit-requires-clause-answered g c κs within =
+serve_hit-requires-clause-answered g c =
     let script = g.N.Name.script in
     let defs = g.N.Name.defs in
     let from = g.N.Name.from in
@@ -67,7 +67,7 @@ serve_hit-requires-clause-answered g c κs within =
     (ap (λ z. Act.Get z c.time.result) c.key.ensures ∙ ap (λ z. Act.Get (key c.args.place.0 c.args.place.1) z) times) c.requires.tick c.requires.run.regions
 
 pub serve_hit-requires-clause-hit : goal.serve_hit-requires-clause-hit
-serve_hit-requires-clause-hit g c κs within =
+serve_hit-requires-clause-hit g c =
     let script = g.N.Name.script in
     let j = past c.args.shared.now.journal in
     let s = number_of c.args.gatherer.now.session in
@@ -78,7 +78,7 @@ serve_hit-requires-clause-hit g c κs within =
     ∙ ap (λ n. entry_at n (Some s) c.args.act (Reply.Listed c.in-Some.list)) c.requires.tick)
 
 pub serve_miss-requires-clause-run : goal.serve_miss-requires-clause-run
-serve_miss-requires-clause-run g c κs within =
+serve_miss-requires-clause-run g c =
     let script = g.N.Name.script in
     let defs = g.N.Name.defs in
     let from = g.N.Name.from in
@@ -90,7 +90,7 @@ serve_miss-requires-clause-run g c κs within =
     subst (λ zs. IsRun script defs from j x zs) (sym (c.in_ok-reply.ensures.still refl)) c.requires.run
 
 pub serve_miss-requires-clause-answered : goal.serve_miss-requires-clause-answered
-serve_miss-requires-clause-answered g c κs within =
+serve_miss-requires-clause-answered g c =
     let script = g.N.Name.script in
     let defs = g.N.Name.defs in
     let from = g.N.Name.from in

@@ -16,10 +16,10 @@ pub returns-in_err-place-clause-err : goal.returns-in_err-place-clause-err
 returns-in_err-place-clause-err g c = err_all _ _ (left_prepared (prepared c.requires.script c.prepare.ensures.same c.prepare.ensures.kept))
 
 pub serve_put-requires-clause-run : goal.serve_put-requires-clause-run
-serve_put-requires-clause-run g c κs within = run_prepared (prepared c.requires.script c.prepare.ensures.same c.prepare.ensures.kept) c.requires.run
+serve_put-requires-clause-run g c = run_prepared (prepared c.requires.script c.prepare.ensures.same c.prepare.ensures.kept) c.requires.run
 
 pub serve_put-requires-clause-member : goal.serve_put-requires-clause-member
-serve_put-requires-clause-member g c κs within = member_prepared (prepared c.requires.script c.prepare.ensures.same c.prepare.ensures.kept) c.requires.member
+serve_put-requires-clause-member g c = member_prepared (prepared c.requires.script c.prepare.ensures.same c.prepare.ensures.kept) c.requires.member
 
 pub returns-in-Some-clause-ok : goal.returns-in-Some-clause-ok
 returns-in-Some-clause-ok g c =

@@ -6,7 +6,7 @@ use Rattle.hib_collections.proofs.AtTurn.{came, here}
 use Rattle.hib_collections.proofs.turns.turn.Goals as goal
 
 pub take_turn-requires-clause-member : goal.take_turn-requires-clause-member
-take_turn-requires-clause-member g c κs within =
+take_turn-requires-clause-member g c =
     let u = c.index_mut-gatherer.result.now in
     let at = c.requires.sessions.each c.args.number u (here c.requires.sessions c.number.view_is c.requires.known c.index_mut-gatherer.ensures.value) in
     subst (λ n. IsGatherer g.N.Name.script (past c.args.shared.now.journal) n u) (sym at.number) at

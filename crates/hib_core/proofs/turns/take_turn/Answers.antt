@@ -7,7 +7,7 @@ use Rattle.hib_core.proofs.Moved.{leaves_of, leaves_on, moves_of, refused_none}
 use Rattle.hib_core.proofs.turns.take_turn.Goals as goal
 
 pub serve-requires-clause-turn : goal.serve-requires-clause-turn
-serve-requires-clause-turn g c κs within =
+serve-requires-clause-turn g c =
     let z = c.ready.new.self in
     let m = member_ready c.args.script.now g.N.Name.script (past c.args.journal.now) c.args.session.now z c.requires.script c.requires.member
     c.in_ok-ready.ensures.number c.in_ok-ready.ensures.killed c.in_ok-ready.ensures.follows in

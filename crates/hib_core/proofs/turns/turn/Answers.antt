@@ -8,7 +8,7 @@ use Rattle.hib_core.proofs.Moved.{turned}
 use Rattle.hib_core.proofs.turns.turn.Goals as goal
 
 pub take_turn-requires-clause-member : goal.take_turn-requires-clause-member
-take_turn-requires-clause-member g c κs within =
+take_turn-requires-clause-member g c =
     let place = at_place g.N.Name.script (past c.args.journal.now) c.args.sessions.now.items c.number.inside.0 c.args.number c.index_mut-session.result.now c.requires.sessions c.number.view_is c.requires.known c.index_mut-session.ensures.value in
     member_of g.N.Name.script (past c.args.journal.now) c.args.sessions.now.items c.args.number c.index_mut-session.result.now c.requires.sessions place
 

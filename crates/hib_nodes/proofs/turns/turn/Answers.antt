@@ -10,7 +10,7 @@ use Rattle.hib_nodes.proofs.Stepped.{turned, session_at}
 use Rattle.hib_nodes.proofs.turns.turn.Goals as goal
 
 pub take_turn-requires-clause-node : goal.take_turn-requires-clause-node
-take_turn-requires-clause-node g c κs within =
+take_turn-requires-clause-node g c =
     let script = g.N.Name.script in
     let h = past c.args.shared.now.journal in
     let xs = c.args.sessions.now.items in
@@ -19,7 +19,7 @@ take_turn-requires-clause-node g c κs within =
     c.requires.node ∙ ap (node_of g.N.Name.places) (sym (c.requires.sessions.numbers c.args.number y place))
 
 pub take_turn-requires-clause-known : goal.take_turn-requires-clause-known
-take_turn-requires-clause-known g c κs within =
+take_turn-requires-clause-known g c =
     let script = g.N.Name.script in
     let h = past c.args.shared.now.journal in
     let xs = c.args.sessions.now.items in
@@ -28,7 +28,7 @@ take_turn-requires-clause-known g c κs within =
     subst (λ n. n < length script.sessions) (sym (c.requires.sessions.numbers c.args.number y place)) c.requires.known
 
 pub take_turn-requires-clause-follows : goal.take_turn-requires-clause-follows
-take_turn-requires-clause-follows g c κs within =
+take_turn-requires-clause-follows g c =
     let script = g.N.Name.script in
     let h = past c.args.shared.now.journal in
     let xs = c.args.sessions.now.items in

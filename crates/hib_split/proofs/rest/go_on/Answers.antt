@@ -20,12 +20,12 @@ use Rattle.hib_split.proofs.rest.go_on.Goals as goal
 use Rattle.hib_split.proofs.rest.go_on.Goals.{After-drop-aside, then-ran_out, else-ran_out}
 
 pub add_shared-keeper-requires-clause-ascend : goal.add_shared-keeper-requires-clause-ascend
-add_shared-keeper-requires-clause-ascend g c κs within =
+add_shared-keeper-requires-clause-ascend g c =
     let script = g.N.Name.script in
     subst (λ (ns : List ℕ). AscendFrom 0 ns) (sym (c.end_sessions-ran_out.ensures.entities ∙ c.requires.entities)) (ascend_picked (λ (n : ℕ). is_cached script n) 0 (length script.mapping))
 
 pub add_shared-keeper-requires-clause-room : goal.add_shared-keeper-requires-clause-room
-add_shared-keeper-requires-clause-room g c κs within =
+add_shared-keeper-requires-clause-room g c =
     let old = c.args.parts.regions in
     let new = c.end_sessions-ran_out.new.parts.regions in
     let same : vec_len new ≡ vec_len old = new.ok.0 ∙ (as_many (λ r. r.entity) new.items old.items c.end_sessions-ran_out.ensures.entities ∙ sym old.ok.0) in

@@ -15,10 +15,10 @@ pub open_all-requires : goal.open_all-requires
 open_all-requires g c = record { few = subst (λ (s : Script). length s.sessions < 2 ^ 32) (sym c.requires.script) (ready g.N.Name.script c.requires.set.valid).sessions }
 
 pub open-requires-clause-entities : goal.open-requires-clause-entities
-open-requires-clause-entities g c κs within = subst (λ (s : Script). length s.mapping < 2 ^ 16) (sym c.requires.script) (ready g.N.Name.script c.requires.set.valid).entities
+open-requires-clause-entities g c = subst (λ (s : Script). length s.mapping < 2 ^ 16) (sym c.requires.script) (ready g.N.Name.script c.requires.set.valid).entities
 
 pub open-requires-clause-results : goal.open-requires-clause-results
-open-requires-clause-results g c κs within = subst (λ (s : Script). 0 < s.results) (sym c.requires.script) (ready g.N.Name.script c.requires.set.valid).results
+open-requires-clause-results g c = subst (λ (s : Script). 0 < s.results) (sym c.requires.script) (ready g.N.Name.script c.requires.set.valid).results
 
 pub invariant_of-result : goal.invariant_of-result
 invariant_of-result g c =

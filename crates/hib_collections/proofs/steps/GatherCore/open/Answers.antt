@@ -28,7 +28,7 @@ invariant_of-result g c =
       run_begins script defs from (past c.open-2.result) x c.in-Ok.regions.items c.open-2.ensures.past c.requires.set
           (subst (λ (o : Option Tables). AreStanding script o [] x) told (subst (λ (s : Script). AreStanding s (told_start s kept) [] x) q c.in_ok-engines.ensures.standing))
           (subst (λ (ds : List Def). AreCollected script ds [] c.in-Ok.regions.items) c.requires.defs (subst (λ (s : Script). AreCollected s c.args.defs [] c.in-Ok.regions.items) q c.in-Ok.ensures))
-          (subst (λ (o : Option Tables). (start : Tables) → o ≡ Some start → in_order start ≡ true) told (start_ordered script kept ((g.met.K.Keeper g.world.𝓛 g.world.𝓜 g.world.𝓡 ((λ s x. x), (λ x. x), (λ x. x), λ x. x)).ordered c.args.keeper)))
+          (subst (λ (o : Option Tables). (start : Tables) → o ≡ Some start → in_order start ≡ true) told (start_ordered script kept (g.met.K.Keeper.ordered c.args.keeper)))
           (subst (λ (n : ℕ). n ≤ x.store.faults) (ap (λ (o : Origin). o.faults) c.requires.from) c.in_ok-engines.ensures.faults),
       subst (λ h. AreGatherers script h c.in-Ok-open_all.gatherers.items) (sym c.open-2.ensures.past) (subst (λ (s : Script). AreGatherers s [] c.in-Ok-open_all.gatherers.items) q c.in-Ok-open_all.ensures),
       λ e. asked_begins script from (past c.open-2.result) x c.open-2.ensures.past (c.in_ok-engines.ensures.asked ∙ ap (λ (o : Origin). o.asked) c.requires.from),

@@ -16,8 +16,8 @@ use Rattle.hib_nodes.proofs.nodes.Nodes.open.Goals as goal
 pub open_all-requires : goal.open_all-requires
 open_all-requires g c = record { few = subst (λ (s : Script). length s.sessions < 2 ^ 32) (sym c.requires.script) (ready g.N.Name.script c.requires.set.valid).sessions }
 
-pub open_shared-requires-clause-built : goal.open_shared-requires-clause-built
-open_shared-requires-clause-built g c κs within = subst (λ (s : Script). IsBuilt s) (sym c.requires.script) (ready g.N.Name.script c.requires.set.valid)
+pub open_shared-requires : goal.open_shared-requires
+open_shared-requires g c = record { built = subst (λ (s : Script). IsBuilt s) (sym c.requires.script) (ready g.N.Name.script c.requires.set.valid) }
 
 pub invariant_of-result : goal.invariant_of-result
 invariant_of-result g c =

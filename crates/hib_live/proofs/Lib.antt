@@ -1,0 +1,5 @@
+pub mod Added
+pub mod Given
+pub mod Goes
+pub mod Longer
+pub mod Typed
