@@ -1,5 +1,5 @@
 -- A statement is added at the place of its session.
-use Rattle.std.proofs.Common.{◌≡◌, ◌<◌, ℕ, zero, suc, List, [], ◌∷◌, ◌++◌, length, slice_set, ap, ◌∙◌, Result, Ok, Err, OnOk, arith}
+use Rattle.std.proofs.Common.{◌≡◌, ◌<◌, ℕ, zero, suc, List, [], ◌∷◌, ◌++◌, length, slice_set, ap, ◌∙◌, arith}
 use Rattle.std.proofs.Math.ListN.{get_or}
 use Rattle.hib_base.specs.declared.scripts.Statement.{Statement}
 use Rattle.hib_base.specs.declared.scripts.SessionDef.{SessionDef}
@@ -11,7 +11,3 @@ added [] n d more st l g e = absurd (omega (arith, l))
 added (c ∷ ds) zero d more st l g e =
     ap (λ (x : List Statement). record { name = d.name; statements = x } ∷ ds) e ∙ ap (λ (x : SessionDef). record { name = x.name; statements = x.statements ++ st ∷ [] } ∷ ds) g
 added (c ∷ ds) (suc n) d more st l g e = ap (λ (es : List SessionDef). c ∷ es) (added ds n d more st (omega (arith, l)) g e)
-
-pub map_on : {T E : Type 0} (r : Result T E) (R Q : Type 0) → OnOk r R → (R → Q) → OnOk r Q
-map_on (Ok t) R Q p f = f p
-map_on (Err e) R Q p f = tt

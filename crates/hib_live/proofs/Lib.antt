@@ -1,4 +1,5 @@
 pub mod Added
+pub mod Ends
 pub mod Given
 pub mod Goes
 pub mod Longer

@@ -1,5 +1,5 @@
 -- A factory whose sessions are given their statements one by one.
-use Rattle.std.specs.Prelude.{◌≡◌, true, List, ℕ}
+use Rattle.std.specs.Prelude.{◌≡◌, Bool, true, List, ℕ}
 use Rattle.std.specs.List.{list_all}
 use Rattle.hib_base.specs.Scripts.{is_declared}
 use Rattle.hib_journal.specs.Types.{Statement, Script}
@@ -9,6 +9,7 @@ use Rattle.hib_session.specs.Sessions.{AreSessions}
 use Rattle.hib_engines.specs.Engines.{EnginesState}
 use Rattle.hib_core.specs.Standing.{Origin}
 use Rattle.hib_core.specs.Factory.{IsRun}
+use Rattle.hib_listeners.specs.Told.{Told}
 use Rattle.hib_live_law.specs.Grown.{HasGrown}
 use Rattle.hib_live.specs.Asked.{with_session, with_statement}
 
@@ -28,6 +29,18 @@ pub record IsLive (opened : Script) (from : Origin) (x : LiveState) : Type 0 whe
   pub declared : list_all (λ q. is_declared x.script q) x.script.queries ≡ true
   pub run : IsRun x.script from (past x.journal) x.engines
   pub sessions : AreSessions x.script (past x.journal) x.sessions
+
+-- the same with what its listeners tell, and whether one had no memory for the newest entry
+pub record HeardState : Type 0 where
+  pub script : Script
+  pub journal : Kept
+  pub engines : EnginesState
+  pub sessions : List Session
+  pub told : List Told
+  pub deaf : Bool
+
+abbrev pub live_of : HeardState → LiveState
+live_of x = record { script = x.script; journal = x.journal; engines = x.engines; sessions = x.sessions }
 
 -- a session has begun, and nothing else has changed
 pub record HasBegun (x y : LiveState) : Type 0 where

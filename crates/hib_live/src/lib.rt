@@ -4,11 +4,13 @@
 
 mod fitting;
 mod growing;
+mod live;
 mod refusal;
 mod steps;
 mod turns;
 
 pub use fitting::fits;
 pub use hib_core::{Name, Stepped};
+pub use live::Live;
 pub use refusal::Refusal;
 pub use steps::LiveCore;

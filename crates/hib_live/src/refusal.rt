@@ -13,4 +13,6 @@ pub enum Refusal {
     Unfit,
     /// Memory ran out.
     NoMemory,
+    /// A listener had no memory for the newest entry, which stands: no call adds one more.
+    Deaf,
 }

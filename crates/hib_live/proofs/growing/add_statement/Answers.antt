@@ -1,7 +1,8 @@
 use Rattle.std.proofs.Common.{◌≡◌, ◌<◌, List, length, sym, ap, subst, ◌∙◌}
 use Rattle.hib_base.specs.declared.scripts.SessionDef.{SessionDef}
 use Rattle.hib_live.specs.Asked.{add_at}
-use Rattle.hib_live.proofs.Added.{added, map_on}
+use Rattle.hib_engines.proofs.Outcomes.{map_on}
+use Rattle.hib_live.proofs.Added.{added}
 use Rattle.hib_live.proofs.growing.add_statement.Goals as goal
 
 pub returns-clause-ok : goal.returns-clause-ok
