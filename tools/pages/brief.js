@@ -54,9 +54,12 @@ function brief(entry, isOnly) {
   return say ? say(entry, entry.key && !isOnly ? ' ' + entry.key : '', isOnly) : entry.act;
 }
 
-// The same as it stands in the picture of a run: what is wrong comes first, and a run's only key isn't said.
+// The same as it stands in the picture of a run: what is wrong comes first, a run's only key isn't said, and a long row is told shortly.
 const PREFIXES = { stale: 'STALE ', oldcopy: 'old copy: ' };
-const briefOf = (run, at) => (PREFIXES[run.marks[at]] || '') + brief(run.entries[at], run.keys.size === 1);
+function briefOf(run, at) {
+  const entry = run.entries[at];
+  return withShortRow(run, entry, (PREFIXES[run.marks[at]] || '') + brief(entry, run.keys.size === 1));
+}
 
 // What kind of an entry it is, for its colour; nothing if none in particular.
 function markOf(entry) {

@@ -199,14 +199,14 @@ function drawSegment(lane, { kind, front }, text, top, height) {
   return `<div class="segment ${kind}" style="${boxAt(lane.x + 2, top, lane.width - 4, height)}">${texts}</div>`;
 }
 
-function drawLane(layout, lane) {
+function drawLane(layout, group, lane) {
   let rows = 0;
   return lane.segments.map(segment => {
     if (segment.kind === 'row') rows++;
     if (!spanOf(layout, segment)) return '';
     const top = segment.from < firstOf(layout) ? 0 : layout.middle(segment.from);
     const bottom = segment.to === null || segment.to > lastOf(layout) ? layout.height : layout.middle(segment.to);
-    return bottom - top < 2 ? '' : drawSegment(lane, lookOf(segment, rows % 2 === 1), segment.text, top, bottom - top);
+    return bottom - top < 2 ? '' : drawSegment(lane, lookOf(segment, rows % 2 === 1), boxText(group, segment), top, bottom - top);
   }).join('');
 }
 
@@ -221,7 +221,7 @@ function drawUnsound(layout, group, unsound) {
 }
 
 function drawKeys(layout) {
-  const drawGroup = group => [...group.lanes.map(lane => drawLane(layout, lane)), ...group.unsound.map(one => drawUnsound(layout, group, one))];
+  const drawGroup = group => [...group.lanes.map(lane => drawLane(layout, group, lane)), ...group.unsound.map(one => drawUnsound(layout, group, one))];
   return layout.groups.flatMap(drawGroup).join('');
 }
 

@@ -208,6 +208,7 @@ function layoutOf(run, visible, names, width) {
     x = layout.textAt + layout.textWidth;
   }
   layout.width = Math.max(placeGroups(groups, x, half) + 4, width);
+  for (const group of groups) group.form = group.kind === 'key' ? formOf(run, group) : null;
   layout.height = visible.length * ROW;
   layout.top = at => at === NEVER ? 0 : placeOf(visible, at) * ROW;
   layout.middle = at => layout.top(at) + ROW / 2;

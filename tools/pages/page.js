@@ -2,13 +2,14 @@
 // The page: what is picked, filtered and drawn, by clicks and keys.
 
 const FEW_KEYS = 12; // up to so many, the panel shows the state of each
-const FEW_ENTRIES = 300; // up to so many, all entries are drawn at first; else those of the first story
 const PRINTED = 1040; // the width of a printed page
 const NARROW = 900; // below this width, as in style.css, the panel stands under the picture and the legend is closed
 
-function start(runs, names) {
+// `sources` has the name, the caption and the text of each run's script.
+function start(runs, sources) {
   let run = runs[0];
   const element = id => document.getElementById(id), main = element('main'), picture = element('picture');
+  const names = sources.map(({ name }) => name), sourceOfRun = () => sources[runs.indexOf(run)];
   const shown = {
     pick: NEVER, story: null, only: null, areAllTold: false, filter: [], from: 0, isPrinting: false, wasLegendOpen: true, // what is asked for
     all: [], visible: [], names: [], layout: null, // what is drawn for it
@@ -51,9 +52,10 @@ function start(runs, names) {
   // What isn't shown, so that nobody takes a part for the whole.
   function drawHidden() {
     const parts = [], lanes = run.keys.size + run.queries.size, { all, names, from } = shown;
-    if (all.length < run.entries.length) parts.push(`${all.length} of ${run.entries.length} entries are shown <button data-all="1">show all</button>`);
+    const front = `${all.length} of ${run.entries.length} entries are shown${shown.only ? ', those of the story' : ''}`;
+    if (all.length < run.entries.length) parts.push(`${front} <button data-all="1">show all</button>`);
     const which = 'that of the picked entry, those with findings, the most used; the filter shows others';
-    if (names.length < lanes) parts.push(`${names.length} of ${lanes} keys and queries have lanes: ${which}`);
+    if (names.length < lanes && !shown.only) parts.push(`${names.length} of ${lanes} keys and queries have lanes: ${which}`);
     if (all.length > MOST) {
       const pages = '<span id="pages"><button data-page="-1">earlier</button> <button data-page="1">later</button></span>';
       parts.push(`Entries ${from + 1} to ${Math.min(all.length, from + MOST)} of these are drawn ${pages}`);
@@ -93,11 +95,21 @@ function start(runs, names) {
 
   const draw = () => keepFocus(drawAll);
 
+  // The script, where it can be copied, and how the run is made again.
+  function drawSource() {
+    const { name, text } = sourceOfRun();
+    element('named').innerHTML = `The script: ${codeHtml(name)}, ${lengthOf(text)}`;
+    element('text').textContent = text;
+    element('copied').textContent = '';
+    element('again').innerHTML = drawAgain(run, name);
+  }
+
   function drawAll() {
     const width = plan(), { layout } = shown, head = drawHead(layout);
-    for (const id of ['words', 'legend', 'foot']) element(id).style.width = width + 'px';
+    for (const id of ['words', 'source', 'legend', 'foot', 'made']) element(id).style.width = width + 'px';
     const comparison = runs.length > 1 ? drawComparison(runs, names) : '';
-    element('words').innerHTML = comparison + drawWords(run, shown.story, shown.only, shown.areAllTold) + drawHidden();
+    const words = drawWords(run, shown.story, shown.only, shown.areAllTold);
+    element('words').innerHTML = comparison + drawCaption(sourceOfRun().caption) + words + drawHidden();
     element('head').innerHTML = head.html;
     element('head').style.cssText = `height:${head.height}px;width:${pixels(layout.width)}px;--slack:${-head.height % ROW + ROW}px`;
     picture.style.cssText = `height:${layout.height + 8}px;width:${pixels(layout.width)}px`;
@@ -162,12 +174,13 @@ function start(runs, names) {
     } catch (refused) { /* a browser may refuse a file to name its place */ }
   }
 
-  // Begins with a run: at an entry that is asked for, or else at the first story, of a long journal with that alone.
+  // Begins with a run: at an entry that is asked for, or else at the first story. A story that is begun with is shown alone.
   function open(number, at) {
     run = runs[number];
-    const isAsked = at >= 0, [story = null] = run.findings, isLong = run.entries.length > FEW_ENTRIES;
-    Object.assign(shown, { story, only: null, areAllTold: false, filter: [], from: 0, pick: story && !isAsked ? story.at : NEVER });
-    if (story && !isAsked && isLong) shown.only = story;
+    const isAsked = at >= 0, [first = null] = run.findings;
+    const own = isAsked ? run.findings.find(story => story.at === at) || null : first;
+    Object.assign(shown, { story: own || first, only: own, areAllTold: false, filter: [], from: 0, pick: own && !isAsked ? own.at : NEVER });
+    drawSource();
     draw();
     if (isAsked) pick(at);
   }
@@ -210,6 +223,18 @@ function start(runs, names) {
     draw();
   }
 
+  // The story alone, or all entries.
+  function turnView() {
+    if (!shown.only && shown.story) { showOnly(shown.story); return; }
+    showAll();
+    draw();
+  }
+
+  function copy() {
+    const say = isDone => { element('copied').textContent = isDone ? 'copied' : 'it is picked: a key of yours copies it'; };
+    copyText(sourceOfRun().text, element('text'), say);
+  }
+
   function tellAll() {
     shown.areAllTold = !shown.areAllTold;
     draw();
@@ -236,6 +261,7 @@ function start(runs, names) {
     all() { showAll(); draw(); },
     page(value) { shown.from += MOST * Number(value); draw(); },
     only: value => showOnly(run.findings[value]),
+    copy,
   };
 
   document.addEventListener('click', event => {
@@ -247,7 +273,7 @@ function start(runs, names) {
       act(target.dataset[kind], target);
       return;
     }
-    if (!summary || summary.parentNode.id === 'legend') return;
+    if (!summary || summary.parentNode.id) return;
     event.preventDefault();
     const { story } = summary.parentNode.dataset;
     if (story !== undefined) openStory(run.findings[story]); else tellAll();
@@ -260,6 +286,7 @@ function start(runs, names) {
     Home: () => pick(shown.all[0]), End: () => pick(shown.all[shown.all.length - 1]),
     n: () => goToNext(FINDINGS), N: () => goToNext(FINDINGS, true), r: () => goToNext(['refused']),
     '/': () => element('find').focus(),
+    s: turnView,
     t: () => turn(runs.length - 1 - runs.indexOf(run)),
   };
 
@@ -277,6 +304,7 @@ function start(runs, names) {
 
   widthOfText = measuring();
   if (innerWidth <= NARROW) element('legend').open = false;
+  if (runs.length > 1) element('turns').textContent = 't the other run, ';
 
   // The address may name a tick.
   open(0, location.hash.length > 1 ? entryAtTick(run, Number(location.hash.slice(1))) : -1);
@@ -292,7 +320,7 @@ if (typeof document !== 'undefined') {
       return { ...analyse(script, journal, readTold(states, journal.entries)), verdict: readVerdict(states), meanings };
     };
     const runs = scripts.map(({ textContent }, n) => runOf(readScript(textContent), n));
-    start(runs, scripts.map(script => script.dataset.name));
+    start(runs, scripts.map(({ dataset, textContent }) => ({ ...dataset, text: textContent })));
   } catch (fault) {
     document.getElementById('main').innerHTML = '<p id="fault"></p>';
     document.getElementById('fault').textContent = `This run can't be drawn: ${fault.message}` + (fault.constructor === Error ? '' : `\n${fault.stack}`);

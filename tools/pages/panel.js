@@ -161,7 +161,8 @@ function badges(run) {
   const unsound = run.unsound.slice(0, 3).map(({ key, node }) => escaped(key + atNode(node))).join(', ');
   const { sessions, lines } = run.script, sizes = [count(run.entries.length, 'entry', 'entries'), count(sessions.length - lines.size, 'session')];
   sizes.push(...(lines.size ? [count(lines.size, 'bulk line')] : []), count(run.keys.size, 'key'));
-  const out = [`<span class="badge">${sizes.join(', ')}</span>`];
+  const strategies = [...run.script.entities.values()].slice(0, 3).map(({ name, strategy }) => `${escaped(name)} ${strategy}`);
+  const out = [`<span class="badge">${sizes.join(', ')}</span>`, `<span class="badge">${strategies.join(', ')}${run.script.entities.size > 3 ? ' and more' : ''}</span>`];
   const add = (kind, text, colour = '') => out.push(`<button class="badge ${colour}" data-next="${kind}" title="go to the next one">${text}</button>`);
   add('stale', `${stale(hits)} stale of ${count(hits.length, 'hit')}`, stale(hits) ? 'red' : '');
   if (lists.length) add('stale', `${stale(lists)} stale of ${count(lists.length, 'kept list')} used`, stale(lists) ? 'red' : '');

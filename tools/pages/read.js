@@ -83,7 +83,7 @@ function readRow(words, entities) {
   return [keyOf(entity, id), rowOf(entities.get(entity).versioned ? cells : [NO_VERSION, ...cells])];
 }
 
-// What each first word of a line says; sessions and the schedule have lines of their own, which the page doesn't need.
+// What each first word of a line says; sessions have lines of their own, which the page doesn't need, and those of the schedule are kept as words.
 const LINES = {
   hib() {},
   timeout(script, words) { script.timeout = Number(words[1]); },
@@ -104,14 +104,17 @@ const LINES = {
 
 function readScript(text) {
   const script = {
-    timeout: 1000, results: 100, entities: new Map(), rows: new Map(), queries: new Map(), sessions: [],
+    timeout: 1000, results: 100, entities: new Map(), rows: new Map(), queries: new Map(), sessions: [], orders: [],
     section: '', places: new Map(), lines: new Map(), collections: new Map(),
   };
-  let inside = false;
+  let inside = '';
   text.split('\n').forEach((line, at) => {
     const words = tokensOf(line), [word] = words;
     if (!words.length || line.trimStart()[0] === '#') return;
-    if (inside) { inside = word !== 'end'; return; }
+    if (inside) {
+      if (word === 'end') inside = ''; else if (inside === 'schedule') script.orders.push(words);
+      return;
+    }
     if (!script.section && Object.hasOwn(SECTION_LINES, line)) {
       script.section = line;
       return;
@@ -121,7 +124,7 @@ function readScript(text) {
     } catch (fault) {
       throw new Error(`the script can't be read at its line ${at}: ${line.slice(0, 80)}`);
     }
-    inside = word === 'session' || word === 'schedule';
+    inside = word === 'session' || word === 'schedule' ? word : '';
   });
   return script;
 }

@@ -31,14 +31,18 @@ const isOldSlot = (state, { wides }, key, slot) => rowText(committedRow(state, k
 function lookOfSlot(state, node, key, tick) {
   const region = node.regions.get(entityOf(key)), slot = region && region.get(key);
   if (!slot) return { kind: 'none', text: '' };
-  if (slot.kind === 'item') return { kind: 'item', text: briefRow(slot.row), isStale: isOldSlot(state, node, key, slot) };
+  if (slot.kind === 'item') return { kind: 'item', text: briefRow(slot.row), row: slot.row, isStale: isOldSlot(state, node, key, slot) };
   if (!isHeld(slot)) return { kind: 'released', text: 'released ' + slot.release.tick };
   if (slot.holders.every(({ by }) => by === null)) return { kind: 'lock', text: 'fence', isOver: false, until: slot.until };
   const isOver = tick > slot.until, holders = slot.holders.map(holder => holderText(state, holder)).join(', ');
   return { kind: 'lock', text: (isOver ? 'lock, time over: ' : 'locked: ') + holders, isOver, until: slot.until };
 }
 
-const lookOfRow = (state, key) => committedOf(state, key) ? { kind: 'row', text: briefRow(committedRow(state, key)) } : { kind: 'none', text: '' };
+function lookOfRow(state, key) {
+  const row = committedRow(state, key);
+  return row ? { kind: 'row', text: briefRow(row), row } : { kind: 'none', text: '' };
+}
+
 const lookOfStamp = stamp => stamp ? { kind: stamp.ahead ? 'ahead' : 'row', text: String(stamp.value), of: stamp } : { kind: 'none', text: '' };
 const lookOfKept = (kept, now) => kept ? { kind: 'item', text: kept.list, isStale: kept.list !== now, of: kept } : { kind: 'none', text: '' };
 
@@ -308,6 +312,7 @@ function analyse(script, journal, told) {
     showWides(run, state, at);
   });
   markServed(run);
+  for (const lanes of run.keys.values()) lanes.apart = placesOfKey(lanes);
   run.end = state;
   return run;
 }

@@ -213,11 +213,14 @@ function check_strategy(n,  text) {
   if (kind[3] != "word") return
   if (part[3] !~ /^(none|read-only|nonstrict|read-write)$/) {
     text = quoted(part[3]) " is no strategy; the strategies are none, read-only, nonstrict, read-write"
-    bad_part(n, "strategy", 3, text or_near(part[3], "none read-only nonstrict read-write"))
+    bad_part(n, "strategy", 3, text or_near(usual_strategy(part[3]), "none read-only nonstrict read-write"))
   } else if (kind[5] != "number") return
   else if (part[3] == "none" && part[5] != "0") bad_part(n, "capacity", 5, text "0")
   else if (part[3] != "none" && (part[5] + 0 < 1 || part[5] + 0 > 100000)) bad_part(n, "capacity", 5, text "1 to 100000")
 }
+
+# A strategy by the name that Hibernate has for it.
+function usual_strategy(word) { return tolower(word) ~ /^nonstrict[-_]read[-_]write$/ ? "nonstrict" : word }
 
 # The declared name is there since another line.
 function is_there(n, which, what, since_line) { bad_part(n, which, 2, what " " quoted(part[2]) " is there since line " since_line) }
@@ -225,6 +228,16 @@ function is_there(n, which, what, since_line) { bad_part(n, which, 2, what " " q
 function or_near(name, names,  found) {
   found = name == "" ? "" : near(name, names)
   return found == "" ? "" : "; near: " found
+}
+
+# What stands behind a type, and isn't `default`: a length, as types have in other languages, or what belongs to no column.
+function behind_type(n, i,  usual) {
+  usual = usual_type(part[3])
+  if (kind[3] == "word" && part[3] !~ /^(int|text|bool|ref)$/)
+    bad_part(n, "words", 3, quoted(part[3]) " is no type; " \
+      (usual ~ /^(int|text|bool)$/ ? "write " usual : "the types are int, text, bool, ref ENTITY"))
+  else if (kind[i] == "(") bad_part(n, "words", i, "a type has no length; write " part[3])
+  else bad_part(n, "words", i, "the line ends before this, or `default CELL` stands here")
 }
 
 # column NAME TYPE, and perhaps default CELL.
@@ -235,7 +248,7 @@ function column_line(n, e,  i, c, type, fine) {
   i = 4
   if (fine && is_the(3, "ref")) { fine = fits(n, 4, "ENTITY"); i = 5 }
   if (fine && i <= count && kind[i] != "?") {
-    if (!is_the(i, "default")) { fine = 0; bad_part(n, "words", i, "the line ends before this, or `default CELL` stands here") }
+    if (!is_the(i, "default")) { fine = 0; behind_type(n, i) }
     else if (!is_cell(i + 1)) fine = no_cell(n, i + 1, e)
     else fine = is_over(n, i + 2, "")
   }

@@ -84,10 +84,10 @@ function keep_form(n) {
 function header(n) {
   place = "behind"
   if (part[1] == "hib") {
-    if (count != 2 || part[2] != "1") bad_part(n, "header", 2, "the first line that says something is `hib 1`")
+    if (count != 2 || part[2] != "1") bad_part(n, "header", 2, "the first line that says something has to be `hib 1`")
     return
   }
-  bad_part(n, "header", 1, "the first line that says something is `hib 1`")
+  bad_part(n, "header", 1, "the first line that says something has to be `hib 1`")
   behind(n)
 }
 
@@ -270,5 +270,5 @@ function finish() {
   if (section != "") {
     if (in_section == "schedule") bad_part(NR, "no-end", 1, "the schedule of line " since " has no `end`")
   } else if (place == "session" || place == "schedule") bad_part(NR, "no-end", 1, open_block() " has no `end`")
-  else if (place == "start") { ends = -1; bad_part(1, "header", 1, "the first line that says something is `hib 1`") }
+  else if (place == "start") { ends = -1; bad_part(1, "header", 1, "the first line that says something has to be `hib 1`") }
 }

@@ -8,7 +8,9 @@
 // the states by step and from the start are the same; nothing waits for a node at the end; the committed members of an owner are those that
 // the store lists; each stale read has a story with its load, put, commit and hit, which says what is old; as many hits and lists are stale as tools/stale names,
 // which reads no section, and keys are unsound since the ticks that it names; beside itself a run comes to the same; and nothing that is
-// drawn has a hole in it, nor what differs from the run before. A journal that is cut, that has a line which was changed, or that is of
+// drawn has a hole in it, nor what differs from the run before. Boxes of one key say two rows otherwise if they differ, and have room for
+// what they say if it isn't the shortest; the text of a stale hit has the cells that differ. The reports in a folder `examples` come by their
+// schedules, and by no schedule that begins with another session. A journal that is cut, that has a line which was changed, or that is of
 // another script says so. With --kinds, how many entries of each kind there were.
 'use strict';
 const fs = require('fs'), path = require('path'), vm = require('vm'), { spawnSync } = require('child_process');
@@ -24,7 +26,7 @@ const page = vm.runInThisContext(`(() => {${source}\nreturn { ${names.join(', ')
 const made = spawnSync(path.join(top, 'tools/page'), ['examples/first.hib', 'examples/first.report'], { cwd: top, encoding: 'utf8' }).stdout;
 const meanings = page.readMeanings(/<pre id="meanings" hidden>\n([^]*?)<\/pre>/.exec(made)[1].replace(/&lt;/g, '<').replace(/&amp;/g, '&'));
 
-const totals = { reports: 0, entries: 0, faults: 0, stale: 0, lists: 0, stories: 0, unsound: 0 }, kinds = new Map();
+const totals = { short: 0, reports: 0, entries: 0, faults: 0, stale: 0, lists: 0, stories: 0, unsound: 0 }, kinds = new Map();
 let wrong = 0;
 function fail(file, text) {
   wrong++;
@@ -90,6 +92,39 @@ function checkStory(file, run, story) {
   checkText(file, 'a story', story.head + story.why + story.steps.map(({ text }) => text).join());
 }
 
+// The boxes of a key's rows, in all of its lanes.
+function checkBoxes(file, run, { name, lanes, form }, width) {
+  const boxOf = lane => segment => ({ ...segment, said: form(segment.row), room: lane.width });
+  const boxes = lanes.flatMap(lane => lane.segments.filter(({ row }) => row).map(boxOf(lane)));
+  const isSame = (one, other) => (one.said === other.said) === (page.rowText(one.row) === page.rowText(other.row));
+  const odd = boxes.find(one => !boxes.every(other => isSame(one, other)));
+  if (odd) fail(file, `two rows of ${name} have one text, or one row has two, ${width} wide: ${odd.said}`);
+  if (boxes.some(({ row, said }) => row.version !== page.NO_VERSION && !said.startsWith(row.version))) fail(file, `a box of ${name} has no version`);
+  const isWhole = boxes.every(({ row, said }) => said === page.briefRow(row)), { apart } = run.keys.get(name);
+  totals.short += Number(!isWhole);
+  if (isWhole && apart.length && boxes.some(box => page.widthInBox(box, box.said) > box.room) && boxes[0].row.cells.length > apart.length) {
+    fail(file, `a box of ${name} is cut before what differs, ${width} wide`);
+  }
+}
+
+// The texts of stale hits.
+function checkShort(file, run) {
+  for (const { at, key } of run.findings) {
+    const row = key ? page.rowShown(run.entries[at]) : null, text = page.briefOf(run, at);
+    if (row && !run.keys.get(key).apart.every(i => text.includes(row.cells[i]))) fail(file, `a stale hit doesn't say what is old: ${text}`);
+  }
+}
+
+// Whether a run is by its schedule, and not by another one.
+function checkAgain(file, run) {
+  const acts = name => run.entries.some(({ session }) => session === name);
+  const other = run.script.sessions.find(name => name !== run.entries[0].session && acts(name));
+  const begins = name => ({ ...run, script: { ...run.script, orders: [['run', name, '1'], ...run.script.orders] } });
+  checkText(file, 'how it is played again', page.drawAgain(run, path.basename(file)) + page.lengthOf('a'));
+  if (path.basename(path.dirname(file)) === 'examples' && !page.isBySchedule(run)) fail(file, 'the run is said not to be by its schedule');
+  if (other && run.entries[0].session && page.isBySchedule(begins(other))) fail(file, 'the run is said to be by another schedule');
+}
+
 function checkDrawing(file, run, width, story, filter) {
   const visible = story && !filter.length ? page.entriesOfStory(run, story) : page.entriesOfFilter(run, filter);
   if (!visible.length) return;
@@ -101,6 +136,7 @@ function checkDrawing(file, run, width, story, filter) {
     words: page.drawWords(run, story, null, true), badges: page.badges(run),
   };
   for (const [what, text] of Object.entries(drawn)) checkText(file, `the picture (${what}, ${width} wide)`, text);
+  for (const group of layout.groups) if (group.kind === 'key') checkBoxes(file, run, group, width);
 }
 
 let before = null;
@@ -115,6 +151,8 @@ function checkRun(file, run, end) {
   if (whole(page.walkTo(run, last)) !== whole(end)) fail(file, 'the states by step and from the start differ');
   for (const story of run.findings) checkStory(file, run, story);
   checkComparison(file, run);
+  checkShort(file, run);
+  if (run.entries.length) checkAgain(file, run);
   for (const width of [400, 1000, 1800]) for (const story of [run.findings[0] || null, null]) checkDrawing(file, run, width, story, []);
   for (const filter of [[...run.keys.keys()].slice(0, 1), run.script.sessions.slice(0, 1)]) checkDrawing(file, run, 1000, null, filter);
   for (let at = page.NEVER; at <= last; at += 1 + Math.floor(last / 12)) checkText(file, 'the panel', page.drawPanel(run, at, null));
@@ -195,5 +233,5 @@ for (const folder of wantsKinds ? words.slice(1) : words) {
 }
 if (wantsKinds) for (const [kind, number] of [...kinds].sort()) console.log(String(number).padStart(7), kind);
 console.log(`${totals.reports} reports, ${totals.entries} entries of ${kinds.size} kinds, ${totals.faults} faults, ${totals.stale} stale hits, ` +
-  `${totals.lists} stale lists, ${totals.stories} stories, ${totals.unsound} unsound keys; ${wrong} wrong`);
+  `${totals.lists} stale lists, ${totals.stories} stories, ${totals.unsound} unsound keys, ${totals.short} keys told shortly; ${wrong} wrong`);
 process.exit(wrong || !totals.reports ? 1 : 0);

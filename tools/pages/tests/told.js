@@ -3,7 +3,8 @@
 //   node tools/pages/tests/told.js PROGRAM FOLDER ..      PROGRAM is the built one; each FOLDER has scripts NAME.hib, each with NAME.report
 //
 // After each entry: whatever it names, and whatever is told of; and some twenty times in a run the whole state. Of each run: what is said of
-// each entry, what is stale and why, and all lanes are the same, and so is what the panel draws of some of the entries, without a hole in it.
+// each entry and how it is called, what is stale and why, and all lanes are the same, and so is what the panel draws of some of the
+// entries, without a hole in it.
 // An entry has a cause exactly if its reply refuses, and that is what the key, the table or the query has by the rules. The scripts are
 // those without a section. The time grows as the journals do.
 'use strict';
@@ -125,6 +126,7 @@ const DRAWN = ['said', 'marks', 'findings', 'reads', 'oldCopies', 'unsound', 'od
 function checkRuns(file, script, journal, told) {
   const [own, run] = [null, told].map(facts => ({ ...page.analyse(script, journal, facts), verdict: null, meanings: [] }));
   for (const part of DRAWN) same(file, part, own[part], run[part]);
+  same(file, 'the texts of entries', ...[own, run].map(one => one.entries.map((entry, at) => page.briefOf(one, at))));
   totals.stories += run.findings.length;
   for (let at = page.NEVER; at < journal.entries.length; at += 1 + Math.floor(journal.entries.length / 20)) {
     const [here, there] = [own, run].map(one => page.drawPanel(one, at, null));
