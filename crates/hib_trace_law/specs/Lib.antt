@@ -1,0 +1,5 @@
+pub mod Placings
+pub mod Together
+pub mod Certain
+pub mod Ages
+pub mod Pairs
