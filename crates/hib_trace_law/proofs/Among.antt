@@ -1,6 +1,6 @@
 -- Tests of the elements of a list, and elements that pass them.
 use Rattle.std.proofs.Common.{◌≡◌, inl, inr, Bool, true, false, List, [], ◌∷◌, map, refl, sym, ◌∙◌, ap}
-use Rattle.std.specs.Prelude.{◌&&◌, ◌||◌, ◌⊎◌, not}
+use Rattle.std.specs.Prelude.{◌||◌}
 use Rattle.std.specs.List.{list_any, list_all}
 use Rattle.std.proofs.lemmas.Bool.{true≢false, false≢true, or_cases, and_parts}
 use Rattle.hib_trace_law.specs.Certain.{IsAmong}

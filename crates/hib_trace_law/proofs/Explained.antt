@@ -1,12 +1,11 @@
 -- Why what the judge refuses is false in every explanation.
-use Rattle.std.proofs.Common.{◌≡◌, ◌≤◌, ◌<◌, inl, inr, ℕ, Bool, true, false, Option, None, Some, List, map, refl, sym, subst, arith}
-use Rattle.std.specs.Prelude.{◌&&◌, ◌||◌, ◌⊎◌, not, nat_eq, nat_lt}
+use Rattle.std.proofs.Common.{◌≡◌, ◌≤◌, ◌<◌, inl, inr, ℕ, Bool, true, false, Option, None, Some, List, refl, sym, subst, arith}
+use Rattle.std.specs.Prelude.{◌&&◌, ◌⊎◌, not, nat_eq, nat_lt}
 use Rattle.std.specs.List.{list_any}
 use Rattle.std.proofs.lemmas.Bool.{false≢true, both_ways, and_parts, and_from, or_cases, ltb-true, eq-eqb}
 use Rattle.hib_trace_law.specs.declared.commits.Commit.{Commit}
 use Rattle.hib_trace_law.specs.declared.commits.Answer.{Answer}
-use Rattle.hib_trace_law.specs.Certain.{Placed, IsAmong, IsUntil, IsPlaced, IsCommittedAt, IsExplained, ended_before, is_before, is_after, is_old, is_new, may_be, may_pass, IsSound}
-use Rattle.hib_trace_law.specs.Ages.{AgesAreLeast}
+use Rattle.hib_trace_law.specs.Certain.{Placed, IsAmong, IsUntil, IsPlaced, IsCommittedAt, IsExplained, ended_before, is_before, is_after, is_old, is_new, may_be, may_pass}
 use Rattle.hib_trace_law.proofs.Among.{fails, any_of, IsFound, any_found, ComesFrom, map_among, among_map}
 
 pub not_from : (b : Bool) → b ≡ false → not b ≡ true
@@ -34,7 +33,7 @@ placed_of cs xs p d m = map_among (λ (x : Placed). x.commit) d xs (subst (λ ds
 pub commit_of : (cs : List Commit) (xs : List Placed) → IsPlaced cs xs → (x : Placed) → IsAmong x xs → IsAmong x.commit cs
 commit_of cs xs p x m = subst (λ ds. IsAmong x.commit ds) p.each (among_map (λ (y : Placed). y.commit) x xs m)
 
-pub least : AgesAreLeast
+pub least : (cs : List Commit) (xs : List Placed) → IsPlaced cs xs → (x : Placed) (t u : ℕ) → is_old cs x.commit t ≡ true → t ≤ u → IsCommittedAt xs x u → ⊥
 least cs xs p x t u o l h =
     let f : IsFound (λ d. is_after x.commit d && ended_before d.end t) cs = any_found (λ d. is_after x.commit d && ended_before d.end t) cs o in
     let y : ComesFrom (λ z. z.commit) f.one xs = placed_of cs xs p f.one f.among in
@@ -75,6 +74,6 @@ let_pass cs xs a p e =
     (and_from (nat_eq c.row a.row) (not (is_old cs c a.since)) (eq-eqb c.row a.row e.row) (not_from (is_old cs c a.since) o))
     (not_from (is_new cs c a.end) n)
 
-pub sound : IsSound
+pub sound : (cs : List Commit) (a : Answer) → may_pass cs a ≡ false → (xs : List Placed) → IsPlaced cs xs → IsExplained xs a → ⊥
 sound cs a f xs p e =
     both_ways (may_pass cs a) f (any_of (may_be cs a) e.source.commit cs (commit_of cs xs p e.source e.committed.among) (let_pass cs xs a p e))

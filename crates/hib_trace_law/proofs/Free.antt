@@ -1,15 +1,15 @@
 -- Why an answer that passes is right in an explanation, if nothing is known of the order but what the calls say: its commit takes effect as late,
 -- and what had ended before it as early, as the calls allow.
 use Rattle.std.proofs.Common.{◌≡◌, ◌≤◌, ◌<◌, inl, inr, ℕ, Bool, true, false, cond, Option, None, Some, List, [], ◌∷◌, map, refl, sym, ◌∙◌, ap, subst, arith}
-use Rattle.std.specs.Prelude.{◌&&◌, ◌||◌, ◌⊎◌, not, is_some, nat_eq, nat_lt}
+use Rattle.std.specs.Prelude.{◌&&◌, ◌⊎◌, not, is_some, nat_eq, nat_lt}
 use Rattle.std.specs.List.{list_any, list_all}
 use Rattle.std.proofs.lemmas.Bool.{true≢false, false≢true, both_ways, and_parts, and_from, or_parts, not-true, ltb-true, ltb-false, lt-ltb, eqb-true}
 use Rattle.hib_trace_law.specs.declared.commits.Commit.{Commit}
 use Rattle.hib_trace_law.specs.declared.commits.Answer.{Answer}
 use Rattle.hib_trace_law.specs.Together.{higher, lower}
-use Rattle.hib_trace_law.specs.Certain.{Placed, IsAmong, IsUntil, IsPlaced, IsCommittedAt, IsExplained, ended_before, is_lower, is_before, is_after, is_old, is_new, may_be, is_free, IsComplete}
+use Rattle.hib_trace_law.specs.Certain.{Placed, IsAmong, IsUntil, IsPlaced, IsCommittedAt, IsExplained, ended_before, is_lower, is_before, is_after, is_old, is_new, may_be, may_pass, is_free}
 use Rattle.hib_trace_law.proofs.Among.{fails, or_right, any_of, all_of, IsFound, any_found, ComesFrom, map_among, among_map}
-use Rattle.hib_trace_law.proofs.Together.{IsLower, IsHigher, lower_is, higher_is}
+use Rattle.hib_trace_law.proofs.Together.{IsHigher, lower_is, higher_is}
 
 -- no version is lower than another if there is none
 unordered : (c d : Commit) → is_some c.version ≡ false → is_before c d ≡ true → ⊥
@@ -177,7 +177,8 @@ module _ (cs : List Commit) (b : Commit) (s : ℕ) (m : IsAmong b cs) (suits : (
         subst (λ (z : Placed). (higher b.begin s ≤ z.at) ⊎ ((z.at ≤ at b) × (is_before b z.commit ≡ false))) r.is (instant_last b r.one s (suits r.one r.among));
   }
 
-pub complete : IsComplete
+pub complete : (cs : List Commit) (a : Answer) → list_all is_free cs ≡ true → a.since ≤ a.end → may_pass cs a ≡ true →
+    (xs : List Placed) × IsPlaced cs xs × IsExplained xs a
 complete cs a v l m =
     let f : IsFound (may_be cs a) cs = any_found (may_be cs a) cs m in
     let b : Commit = f.one in

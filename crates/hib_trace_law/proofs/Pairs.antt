@@ -1,16 +1,16 @@
 -- Why answers that went back, and lost updates, are so in every explanation.
-use Rattle.std.proofs.Common.{◌≡◌, ◌≤◌, ◌<◌, inl, inr, ℕ, Bool, true, false, List, refl, sym, subst, arith}
-use Rattle.std.specs.Prelude.{◌&&◌, ◌||◌, ◌⊎◌, not, nat_eq, nat_lt}
+use Rattle.std.proofs.Common.{◌≡◌, ◌≤◌, ◌<◌, inl, inr, ℕ, true, false, List, sym, subst, arith}
+use Rattle.std.specs.Prelude.{◌&&◌, ◌⊎◌, not, nat_eq, nat_lt}
 use Rattle.std.specs.List.{list_any}
 use Rattle.std.proofs.lemmas.Bool.{both_ways, and_parts, and_from, or_parts, or_cases, not-false, ltb-true, eq-eqb}
 use Rattle.hib_trace_law.specs.declared.commits.Commit.{Commit}
 use Rattle.hib_trace_law.specs.declared.commits.Answer.{Answer}
 use Rattle.hib_trace_law.specs.Certain.{Placed, IsAmong, IsUntil, IsPlaced, IsExplained, ended_before, is_before, is_after, may_be}
-use Rattle.hib_trace_law.specs.Pairs.{may_follow, IsBackSound, RestsOn, may_rest_on, may_rest, IsLostSound}
+use Rattle.hib_trace_law.specs.Pairs.{may_follow, RestsOn, may_rest_on, may_rest}
 use Rattle.hib_trace_law.proofs.Among.{fails, any_of, IsFound, any_found, ComesFrom}
 use Rattle.hib_trace_law.proofs.Explained.{not_from, before_end, replaced, placed_of, commit_of, let_pass}
 
-pub back : IsBackSound
+pub back : (cs : List Commit) (a b : Answer) → may_follow cs a b ≡ false → (xs : List Placed) → IsPlaced cs xs → IsExplained xs a → IsExplained xs b → ⊥
 back cs a b f xs p ea eb =
     let c : Commit = ea.source.commit in
     let d : Commit = eb.source.commit in
@@ -71,5 +71,6 @@ module _ (cs : List Commit) (xs : List Placed) (p : IsPlaced cs xs) (x : Placed)
       (not_from (is_after c e) (fails (is_after c e) not_later))
       (not_from (list_any (λ v. is_after e v && is_after v c) cs) (fails (list_any (λ v. is_after e v && is_after v c) cs) none_between))))
 
-pub lost : IsLostSound
+pub lost : (cs : List Commit) (c : Commit) (row : ℕ) → may_rest cs c row ≡ false → (xs : List Placed) → IsPlaced cs xs →
+    (x : Placed) → IsAmong x xs → x.commit ≡ c → RestsOn xs x row → ⊥
 lost cs c row f xs p x m i r = both_ways (may_rest cs x.commit row) (subst (λ d. may_rest cs d row ≡ false) (sym i) f) (rests cs xs p x m row r)

@@ -1,7 +1,7 @@
 -- What a trace of a key can mean if the order of its commits is known in part, and what the judge looks at. What it refuses is certain: false
 -- in every explanation.
 use Rattle.std.specs.Prelude.{◌≡◌, ◌≤◌, ◌&&◌, ◌||◌, ◌⊎◌, ℕ, Bool, true, false, not, Option, None, Some, List, [], ◌∷◌, map, is_some, nat_eq, nat_lt}
-use Rattle.std.specs.List.{list_any, list_all}
+use Rattle.std.specs.List.{list_any}
 use Rattle.hib_trace_law.specs.declared.commits.Commit.{Commit}
 use Rattle.hib_trace_law.specs.declared.commits.Answer.{Answer}
 
@@ -76,15 +76,6 @@ may_be cs a c = nat_eq c.row a.row && not (is_old cs c a.since) && not (is_new c
 abbrev pub may_pass : List Commit → Answer → Bool
 may_pass cs a = list_any (may_be cs a) cs
 
--- sound: what the judge refuses is false in every explanation
-abbrev pub IsSound : Type 0
-IsSound = (cs : List Commit) (a : Answer) → may_pass cs a ≡ false → (xs : List Placed) → IsPlaced cs xs → IsExplained xs a → ⊥
-
 -- the calls are calls, and nothing is known of the order but what they say
 abbrev pub is_free : Commit → Bool
 is_free c = not (is_some c.version) && not (ended_before c.end c.begin)
-
--- complete: what it lets pass is right in an explanation
-abbrev pub IsComplete : Type 0
-IsComplete = (cs : List Commit) (a : Answer) → list_all is_free cs ≡ true → a.since ≤ a.end → may_pass cs a ≡ true →
-    (xs : List Placed) × IsPlaced cs xs × IsExplained xs a

@@ -3,15 +3,11 @@ use Rattle.std.specs.Prelude.{◌≡◌, ◌≤◌, ◌&&◌, ◌||◌, ◌⊎�
 use Rattle.std.specs.List.{list_any}
 use Rattle.hib_trace_law.specs.declared.commits.Commit.{Commit}
 use Rattle.hib_trace_law.specs.declared.commits.Answer.{Answer}
-use Rattle.hib_trace_law.specs.Certain.{Placed, IsAmong, IsPlaced, IsExplained, is_before, is_after, may_be}
+use Rattle.hib_trace_law.specs.Certain.{Placed, IsAmong, is_before, is_after, may_be}
 
 -- an answer may come after another one: their calls overlap, or they may be rows of which the later one isn't certainly the older
 abbrev pub may_follow : List Commit → Answer → Answer → Bool
 may_follow cs a b = not (nat_lt a.end b.since) || list_any (λ c. may_be cs a c && list_any (λ d. may_be cs b d && not (is_after d c)) cs) cs
-
--- sound: of two answers that went back no explanation explains both
-abbrev pub IsBackSound : Type 0
-IsBackSound = (cs : List Commit) (a b : Answer) → may_follow cs a b ≡ false → (xs : List Placed) → IsPlaced cs xs → IsExplained xs a → IsExplained xs b → ⊥
 
 -- a commit took effect on a row: on that of the commit right before it
 pub record RestsOn (xs : List Placed) (x : Placed) (row : ℕ) : Type 0 where
@@ -30,8 +26,3 @@ may_rest_on cs c d = not (is_after c d) && not (list_any (λ e. is_after d e && 
 
 abbrev pub may_rest : List Commit → Commit → ℕ → Bool
 may_rest cs c row = list_any (λ d. nat_eq d.row row && may_rest_on cs c d) cs
-
--- sound: a lost update rests on its base in no explanation
-abbrev pub IsLostSound : Type 0
-IsLostSound = (cs : List Commit) (c : Commit) (row : ℕ) → may_rest cs c row ≡ false → (xs : List Placed) → IsPlaced cs xs →
-    (x : Placed) → IsAmong x xs → x.commit ≡ c → RestsOn xs x row → ⊥

@@ -1,7 +1,4 @@
 //! A key of whose commits the order is known in part: by versions, and by calls that don't overlap.
-ghost use Rattle.hib_trace_law.specs.Certain.{IsSound, IsComplete};
-ghost use Rattle.hib_trace_law.specs.Ages.{AgesAreLeast};
-ghost use Rattle.hib_trace_law.specs.Pairs.{IsBackSound, IsLostSound};
 
 /// What a trace tells of a commit of a key.
 #[derive(Clone, Copy, Debug, PartialEq, Eq)]
@@ -27,28 +24,3 @@ pub struct Answer {
     /// When the call had returned.
     pub end: u64,
 }
-
-/// An answer that is refused is false in every explanation of the commits.
-pub fn refusals_are_sound()
-    ensures sound { IsSound }
-{}
-
-/// If nothing is known of the order but what the calls say, an answer that passes is right in an explanation.
-pub fn refusals_are_complete()
-    ensures complete { IsComplete }
-{}
-
-/// In every explanation a row was replaced at an instant that the judge knows, at the latest.
-pub fn ages_are_least()
-    ensures least { AgesAreLeast }
-{}
-
-/// Of two answers of which the later one went back to an older row no explanation explains both.
-pub fn answers_went_back()
-    ensures back { IsBackSound }
-{}
-
-/// A write that was lost under another one rests on the row that the other names in no explanation.
-pub fn updates_were_lost()
-    ensures lost { IsLostSound }
-{}

@@ -7,11 +7,12 @@
 
 mod calls;
 mod commits;
+mod laws;
 
 pub use calls::{
     Call, Sighting, passes, placings_are_found, sightings_are_complete, sightings_are_sound,
 };
-pub use commits::{
-    Answer, Commit, ages_are_least, answers_went_back, refusals_are_complete, refusals_are_sound,
-    updates_were_lost,
+pub use commits::{Answer, Commit};
+pub use laws::{
+    ages_are_least, answers_went_back, refusals_are_complete, refusals_are_sound, updates_were_lost,
 };
