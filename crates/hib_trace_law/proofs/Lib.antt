@@ -2,6 +2,6 @@ mod Passed
 mod Placed
 mod Together
 mod Among
-mod Explained
+pub mod Explained
 mod Free
 mod Pairs

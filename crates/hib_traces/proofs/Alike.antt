@@ -9,12 +9,13 @@ use Rattle.std.proofs.lemmas.List.{take-append-drop, length-take-le, length-drop
 use Rattle.std.proofs.lemmas.List.Sorted.{list_any-IsPermutation}
 use Rattle.hib_trace_law.specs.declared.commits.Commit.{Commit}
 use Rattle.hib_trace_law.specs.declared.commits.Answer.{Answer}
-use Rattle.hib_trace_law.specs.Certain.{ended_before, is_after, is_before, is_old, is_new}
+use Rattle.hib_trace_law.specs.Certain.{Placed, IsPlaced, IsExplained, ended_before, is_after, is_before, is_old, is_new}
+use Rattle.hib_trace_law.proofs.Explained.{sound}
 use Rattle.hib_traces.specs.declared.kinds.Verdict.{Verdict}
 use Rattle.hib_traces.specs.declared.kinds.Verdict.TheVariants.{Unknown, Possible, Old, New}
 use Rattle.hib_traces.specs.Stands.{row_of}
-use Rattle.hib_traces.specs.Verdicts.{makes_row, may_stand, IsVerdict}
-use Rattle.hib_traces.proofs.Joined.{first_of, second_of, quiet_unknown}
+use Rattle.hib_traces.specs.Verdicts.{IsOld, IsNew, makes_row, may_stand, IsVerdict}
+use Rattle.hib_traces.proofs.Joined.{certain, certain_new, first_of, second_of, quiet_unknown}
 
 -- places of other rows change no verdict
 pub widened : (cs : List Commit) (a : Answer) (xs ys zs : List Commit) (v : Verdict) → list_any (makes_row a) xs ≡ false → list_any (makes_row a) zs ≡ false →
@@ -100,3 +101,9 @@ all_zip_map R S f [] [] p = p
 all_zip_map R S f [] (w ∷ ys) p = absurd p
 all_zip_map R S f (v ∷ xs) [] p = absurd p
 all_zip_map R S f (v ∷ xs) (w ∷ ys) p = (f v w p.0, all_zip_map R S f xs ys p.1)
+
+pub old_is_false : (cs : List Commit) (a : Answer) (t : ℕ) → IsOld cs a t cs → (xs : List Placed) → IsPlaced cs xs → IsExplained xs a → ⊥
+old_is_false cs a t i = sound cs a (certain cs a t i)
+
+pub new_is_false : (cs : List Commit) (a : Answer) → IsNew cs a cs → (xs : List Placed) → IsPlaced cs xs → IsExplained xs a → ⊥
+new_is_false cs a i = sound cs a (certain_new cs a i)

@@ -3,11 +3,13 @@
 #![tactic(auto)]
 
 mod kinds;
+mod laws;
 mod marks;
 mod order;
 mod verdicts;
 
 pub use kinds::Verdict;
+pub use laws::verdicts_are_certain;
 pub use marks::Mark;
 pub use order::{Order, order_of};
 pub use verdicts::{judge, verdict};
