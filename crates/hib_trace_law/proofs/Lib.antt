@@ -1,0 +1,7 @@
+mod Passed
+mod Placed
+mod Together
+mod Among
+pub mod Explained
+mod Free
+mod Pairs

@@ -1,0 +1,4 @@
+pub mod Placings
+pub mod Together
+pub mod Certain
+pub mod Pairs

@@ -1,0 +1,5 @@
+mod Steps
+mod Orders
+mod Olds
+mod Joined
+mod Alike

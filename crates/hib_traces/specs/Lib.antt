@@ -1,0 +1,3 @@
+pub mod Marks
+pub mod Stands
+pub mod Verdicts
