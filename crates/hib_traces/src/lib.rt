@@ -6,8 +6,6 @@ mod kinds;
 mod laws;
 mod marks;
 mod order;
-#[cfg(test)]
-mod tests;
 mod verdicts;
 
 pub use kinds::Verdict;
