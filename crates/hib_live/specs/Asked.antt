@@ -1,6 +1,11 @@
 -- The script of what was asked so far, and how it grows.
-use Rattle.std.specs.Prelude.{ℕ, zero, suc, List, [], ◌∷◌, ◌++◌}
+use Rattle.std.specs.Prelude.{ℕ, zero, suc, ◌+◌, List, [], ◌∷◌, ◌++◌, codes}
+use Rattle.std.specs.Fmt.{decimal}
 use Rattle.hib_journal.specs.Types.{Statement, SessionDef, Script}
+
+-- the name of session n; that of the first one is s1
+abbrev pub name_of : ℕ → List ℕ
+name_of n = codes "s" ++ decimal (n + 1)
 
 -- with one session more, which has no statement
 abbrev pub with_session : Script → List ℕ → Script

@@ -1,5 +1,5 @@
 -- A factory whose sessions are given their statements one by one.
-use Rattle.std.specs.Prelude.{◌≡◌, Bool, true, List, ℕ}
+use Rattle.std.specs.Prelude.{◌≡◌, Bool, true, List, ℕ, length}
 use Rattle.std.specs.List.{list_all}
 use Rattle.hib_base.specs.Scripts.{is_declared}
 use Rattle.hib_journal.specs.Types.{Statement, Script}
@@ -11,7 +11,7 @@ use Rattle.hib_core.specs.Standing.{Origin}
 use Rattle.hib_core.specs.Factory.{IsRun}
 use Rattle.hib_listeners.specs.Told.{Told}
 use Rattle.hib_live_law.specs.Grown.{HasGrown}
-use Rattle.hib_live.specs.Asked.{with_session, with_statement}
+use Rattle.hib_live.specs.Asked.{name_of, with_session, with_statement}
 
 -- as contracts see it: the script of what was asked so far, and what came of it
 pub record LiveState : Type 0 where
@@ -42,10 +42,9 @@ pub record HeardState : Type 0 where
 abbrev pub live_of : HeardState → LiveState
 live_of x = record { script = x.script; journal = x.journal; engines = x.engines; sessions = x.sessions }
 
--- a session has begun, and nothing else has changed
+-- a session has begun behind the others, and nothing else has changed
 pub record HasBegun (x y : LiveState) : Type 0 where
-  pub name : List ℕ
-  pub script : y.script ≡ with_session x.script name
+  pub script : y.script ≡ with_session x.script (name_of (length x.script.sessions))
   pub journal : y.journal ≡ x.journal
   pub engines : y.engines ≡ x.engines
 

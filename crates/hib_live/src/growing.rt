@@ -1,13 +1,15 @@
 // The script of what was asked so far, which grows.
-ghost use Rattle.hib_live.specs.Asked.{with_session, with_statement};
-ghost use Rattle.std.specs.Prelude.{◌≡◌, ◌<◌, length, OnOk, OnErr};
+ghost use Rattle.hib_live.specs.Asked.{name_of, with_session, with_statement};
+ghost use Rattle.std.specs.Prelude.{◌≡◌, ◌<◌, length, IfOk, OnOk, OnErr};
 
 use hib_base::{Script, Seq, SessionDef, SessionNo, Statement, Text};
 use std::alloc::{AllocError, Global};
 use std::mem;
 
 /// The name of a session of this number: `s1` of the first one. Fails for want of memory alone.
-pub fn name_of(alloc: Global, number: u32) -> Result<Text, AllocError> {
+pub fn name_of(alloc: Global, number: u32) -> Result<Text, AllocError>
+    ensures { IfOk result (λ t. t ≡ name_of number) }
+{
     let mut name = b"s".to_vec(alloc)?;
     let digits = (u64::from(number) + 1).to_string(alloc)?;
     name.extend_from_slice(digits.as_bytes())?;

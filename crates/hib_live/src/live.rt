@@ -1,5 +1,5 @@
 // A live factory: the core, and the listeners that hear of each step.
-ghost use Rattle.std.specs.Prelude.{◌≡◌, ◌∷◌, ◌<◌, ◌≤◌, ◌&&◌, ◌⊎◌, ◌↔◌, [], length, is_ok, IfOk, IfErr, IfSome, OnOk, OnErr, IsOk, Ok, Err, true, false};
+ghost use Rattle.std.specs.Prelude.{◌≡◌, ◌≢◌, ◌∷◌, ◌<◌, ◌≤◌, ◌&&◌, ◌⊎◌, ◌↔◌, [], length, is_ok, IfOk, IfErr, IfSome, OnOk, OnErr, IsOk, Ok, Err, true, false, ◌==◌, ℕ, slice_get};
 ghost use Rattle.hib_base.specs.declared.entries.Entry.{Entry};
 ghost use Rattle.hib_base.specs.declared.scripts.Order.{Order};
 ghost use Rattle.hib_base.specs.Fits.{fits_statement};
@@ -17,7 +17,7 @@ ghost use Rattle.hib_outside.specs.Causes.{Rose};
 ghost use Rattle.hib_store.specs.Stores.{handed_back, is_store_fault};
 ghost use Rattle.hib_engines.specs.Engines.{IsAskedFor};
 ghost use Rattle.hib_core.specs.Standing.{RoseBy, origin_over};
-ghost use Rattle.hib_core.specs.Factory.{Does, IsOver, Hears};
+ghost use Rattle.hib_core.specs.Factory.{Does, IsOver, IsStepRefused, Hears};
 ghost use Rattle.hib_core.specs.Playing.{played, Leads};
 ghost use Rattle.hib_listeners.specs.Told.{tells};
 ghost use Rattle.hib_listeners.specs.Heard.{HaveHeard};
@@ -130,6 +130,15 @@ impl<K: Keeper, N: Name, L: Listener> Live<K, N, L> {
             && is_known (length self.old.script.queries) statement) ≡ true) }
         ensures idle { OnOk result (has_next self.old.script (past self.old.journal) number ≡ false) }
         ensures unknown { result ≡ Err Refusal.NoSession → length self.old.script.sessions ≤ number }
+        ensures hears { result ≢ Err Refusal.Deaf }
+        ensures absent { length self.old.script.sessions ≤ number → result ≡ Err Refusal.NoSession }
+        ensures dead { number < length self.old.script.sessions
+            → was_killed number (past self.old.journal) ≡ true → result ≡ Err Refusal.Killed }
+        ensures other { number < length self.old.script.sessions
+            → was_killed number (past self.old.journal) ≡ false
+            → (fits_statement self.old.script.mapping statement
+            && is_known (length self.old.script.queries) statement) ≡ false
+            → result ≡ Err Refusal.Unfit }
         ensures killed { result ≡ Err Refusal.Killed
             → was_killed number (past self.old.journal) ≡ true }
         ensures busy { result ≡ Err Refusal.Busy
@@ -158,10 +167,20 @@ impl<K: Keeper, N: Name, L: Listener> Live<K, N, L> {
             → IsAskedFor (past self.old.journal) number e.act self.old.engines self.new.engines }
         ensures hears { Hears (past self.old.journal) (past self.new.journal)
             (is_ok result) self.old.told self.new.told }
+        ensures killed { self.old.deaf ≡ false → number < length self.old.script.sessions
+            → was_killed number (past self.old.journal) ≡ true → result ≡ Ok Stepped.Done }
+        ensures unknown { self.old.deaf ≡ false → length self.old.script.sessions ≤ number
+            → result ≡ Err Refusal.NoSession }
+        ensures counts { result ≡ Err Refusal.NoMemory → IsStepRefused self.old.script
+            (past self.old.journal) number self.old.engines self.new.engines }
+        ensures others { (s : ℕ) → (number == s) ≡ false
+            → slice_get self.new.sessions s ≡ slice_get self.old.sessions s }
         ensures unheard { result ≡ Err Refusal.Deaf → self.old.deaf ≡ false
             → Does self.old.script number (past self.old.journal) (past self.new.journal)
             self.old.sessions self.new.sessions }
         ensures deaf { self.old.deaf ≡ true → (result ≡ Err Refusal.Deaf) × (self.new ≡ self.old) }
+        ensures turned { result ≡ Err Refusal.Deaf → self.new.deaf ≡ true }
+        ensures hearing { OnOk result (self.new.deaf ≡ false) }
         ensures same { OnErr result (self.new.deaf ≡ self.old.deaf
             → past self.new.journal ≡ past self.old.journal) }
     {
@@ -190,6 +209,8 @@ impl<K: Keeper, N: Name, L: Listener> Live<K, N, L> {
         ensures hears { Hears (past self.old.journal) (past self.new.journal)
             (is_ok result) self.old.told self.new.told }
         ensures deaf { self.old.deaf ≡ true → (result ≡ Err Refusal.Deaf) × (self.new ≡ self.old) }
+        ensures turned { result ≡ Err Refusal.Deaf → self.new.deaf ≡ true }
+        ensures hearing { OnOk result (self.new.deaf ≡ false) }
         ensures same { OnErr result (self.new.deaf ≡ self.old.deaf
             → past self.new.journal ≡ past self.old.journal) }
     {
@@ -223,6 +244,8 @@ impl<K: Keeper, N: Name, L: Listener> Live<K, N, L> {
         ensures uncached { result ≡ Err Refusal.Unfit
             → is_cached self.old.script key.entity ≡ false }
         ensures deaf { self.old.deaf ≡ true → (result ≡ Err Refusal.Deaf) × (self.new ≡ self.old) }
+        ensures turned { result ≡ Err Refusal.Deaf → self.new.deaf ≡ true }
+        ensures hearing { OnOk result (self.new.deaf ≡ false) }
         ensures same { OnErr result (self.new.deaf ≡ self.old.deaf
             → past self.new.journal ≡ past self.old.journal) }
     {
@@ -249,6 +272,8 @@ impl<K: Keeper, N: Name, L: Listener> Live<K, N, L> {
         ensures hears { Hears (past self.old.journal) (past self.new.journal)
             (is_ok result) self.old.told self.new.told }
         ensures deaf { self.old.deaf ≡ true → (result ≡ Err Refusal.Deaf) × (self.new ≡ self.old) }
+        ensures turned { result ≡ Err Refusal.Deaf → self.new.deaf ≡ true }
+        ensures hearing { OnOk result (self.new.deaf ≡ false) }
         ensures same { OnErr result (self.new.deaf ≡ self.old.deaf
             → past self.new.journal ≡ past self.old.journal) }
     {

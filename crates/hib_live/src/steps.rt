@@ -1,5 +1,5 @@
 // A live factory without its listeners: what was asked, and the steps that were made of it.
-ghost use Rattle.std.specs.Prelude.{◌≡◌, ◌∷◌, ◌<◌, ◌≤◌, ◌^◌, ◌==◌, ◌&&◌, ◌⊎◌, ◌↔◌, ℕ, [], length, slice_get, IfOk, IfErr, IfSome, OnOk, OnErr, IsOk, Ok, Err, true, false};
+ghost use Rattle.std.specs.Prelude.{◌≡◌, ◌≢◌, ◌∷◌, ◌<◌, ◌≤◌, ◌^◌, ◌==◌, ◌&&◌, ◌⊎◌, ◌↔◌, ℕ, [], length, slice_get, IfOk, IfErr, IfSome, OnOk, OnErr, IsOk, Ok, Err, true, false};
 ghost use Rattle.hib_base.specs.declared.entries.Entry.{Entry};
 ghost use Rattle.hib_base.specs.declared.scripts.Order.{Order};
 ghost use Rattle.hib_base.specs.Fits.{fits_statement};
@@ -18,7 +18,7 @@ ghost use Rattle.hib_session.specs.Session.{number_of};
 ghost use Rattle.hib_store.specs.Stores.{handed_back, is_store_fault};
 ghost use Rattle.hib_engines.specs.Engines.{IsStill, IsAskedFor};
 ghost use Rattle.hib_core.specs.Standing.{RoseBy, origin_over};
-ghost use Rattle.hib_core.specs.Factory.{Does, IsOver, HasGrown};
+ghost use Rattle.hib_core.specs.Factory.{Does, IsOver, IsStepRefused, HasGrown};
 ghost use Rattle.hib_core.specs.Playing.{played, Leads};
 ghost use Rattle.hib_live.specs.Asked.{with_session};
 ghost use Rattle.hib_live.specs.Live.{HasBegun, HasTaken};
@@ -149,6 +149,15 @@ impl<K: Keeper, N: Name> LiveCore<K, N> {
         ensures fits { OnOk result ((fits_statement self.now.script.mapping statement.now
             && is_known (length self.now.script.queries) statement.now) ≡ true) }
         ensures unknown { result ≡ Err Refusal.NoSession → length self.now.script.sessions ≤ number }
+        ensures alone { result ≢ Err Refusal.Deaf }
+        ensures absent { length self.now.script.sessions ≤ number → result ≡ Err Refusal.NoSession }
+        ensures dead { number < length self.now.script.sessions
+            → was_killed number (past self.now.journal) ≡ true → result ≡ Err Refusal.Killed }
+        ensures other { number < length self.now.script.sessions
+            → was_killed number (past self.now.journal) ≡ false
+            → (fits_statement self.now.script.mapping statement.now
+            && is_known (length self.now.script.queries) statement.now) ≡ false
+            → result ≡ Err Refusal.Unfit }
         ensures killed { result ≡ Err Refusal.Killed
             → was_killed number (past self.now.journal) ≡ true }
         ensures busy { result ≡ Err Refusal.Busy
@@ -190,6 +199,15 @@ impl<K: Keeper, N: Name> LiveCore<K, N> {
             && is_known (length self.old.script.queries) statement) ≡ true) }
         ensures idle { OnOk result (has_next self.old.script (past self.old.journal) number ≡ false) }
         ensures unknown { result ≡ Err Refusal.NoSession → length self.old.script.sessions ≤ number }
+        ensures alone { result ≢ Err Refusal.Deaf }
+        ensures absent { length self.old.script.sessions ≤ number → result ≡ Err Refusal.NoSession }
+        ensures dead { number < length self.old.script.sessions
+            → was_killed number (past self.old.journal) ≡ true → result ≡ Err Refusal.Killed }
+        ensures other { number < length self.old.script.sessions
+            → was_killed number (past self.old.journal) ≡ false
+            → (fits_statement self.old.script.mapping statement
+            && is_known (length self.old.script.queries) statement) ≡ false
+            → result ≡ Err Refusal.Unfit }
         ensures killed { result ≡ Err Refusal.Killed
             → was_killed number (past self.old.journal) ≡ true }
         ensures busy { result ≡ Err Refusal.Busy
@@ -228,8 +246,11 @@ impl<K: Keeper, N: Name> LiveCore<K, N> {
         ensures reason { IfErr result (λ r. (r ≡ Refusal.NoMemory) ⊎ (r ≡ Refusal.NoSession)) }
         ensures unknown { (result ≡ Err Refusal.NoSession)
             ↔ (length self.old.script.sessions ≤ number) }
+        ensures untouched { result ≡ Err Refusal.NoSession → self.new ≡ self.old }
         ensures same { OnErr result (past self.new.journal ≡ past self.old.journal) }
         ensures engines { OnErr result (IsStill self.old.engines self.new.engines) }
+        ensures counts { result ≡ Err Refusal.NoMemory → IsStepRefused self.old.script
+            (past self.old.journal) number self.old.engines self.new.engines }
         ensures others { (s : ℕ) → (number == s) ≡ false
             → slice_get self.new.sessions s ≡ slice_get self.old.sessions s }
     {
@@ -308,6 +329,7 @@ impl<K: Keeper, N: Name> LiveCore<K, N> {
         ensures grown { OnOk result (HasGrown (past self.old.journal) (past self.new.journal)) }
         ensures uncached { (result ≡ Err Refusal.Unfit)
             ↔ (is_cached self.old.script key.entity ≡ false) }
+        ensures reason { IfErr result (λ r. (r ≡ Refusal.NoMemory) ⊎ (r ≡ Refusal.Unfit)) }
         ensures same { OnErr result (past self.new.journal ≡ past self.old.journal) }
         ensures engines { OnErr result (self.new.engines ≡ self.old.engines) }
         ensures sessions { self.new.sessions ≡ self.old.sessions }

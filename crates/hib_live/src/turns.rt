@@ -13,7 +13,7 @@ ghost use Rattle.hib_session.specs.declared.session.Session.{Session};
 ghost use Rattle.hib_session.specs.Sessions.{AreSessions};
 ghost use Rattle.hib_engines.specs.Due.{HasQueries};
 ghost use Rattle.hib_engines.specs.Engines.{IsStill, IsAskedFor};
-ghost use Rattle.hib_core.specs.Factory.{IsRun, Does, IsOver, HasGrown};
+ghost use Rattle.hib_core.specs.Factory.{IsRun, Does, IsOver, IsStepRefused, HasGrown};
 ghost use Rattle.hib_core.specs.Playing.{played, Leads};
 
 use hib_base::{Key, Script, SessionNo};
@@ -61,6 +61,8 @@ pub fn take_turn<K: Keeper, N: Name>(
         → IsOver script.now number (past journal.old) (past journal.new) }
     ensures same { OnErr result (past journal.new ≡ past journal.old) }
     ensures err { OnErr result (IsStill engines.old engines.new) }
+    ensures counts { OnErr result (IsStepRefused script.now (past journal.old) number engines.old
+        engines.new) }
     ensures asks_once { (e : Entry) → past journal.new ≡ e ∷ past journal.old
         → IsAskedFor (past journal.old) number e.act engines.old engines.new }
     ensures fault { (e : Entry) → past journal.new ≡ e ∷ past journal.old → is_fault e.reply ≡ true

@@ -1,4 +1,4 @@
-use Rattle.std.proofs.Common.{◌≡◌, is_ok, refl, sym, ap, subst, ◌∙◌}
+use Rattle.std.proofs.Common.{is_ok, refl, sym, ap, subst, ◌∙◌}
 use Rattle.hib_journal.specs.Kept.{past}
 use Rattle.hib_journal.specs.Sessions.{Journal}
 use Rattle.hib_listeners.specs.Told.{tells}
