@@ -6,4 +6,5 @@ pub mod Plays
 pub mod Once
 pub mod Plain
 pub mod Shown
+pub mod Begins
 pub mod Fitting

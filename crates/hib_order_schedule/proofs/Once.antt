@@ -69,23 +69,23 @@ module _ (script : Script) where
 
 module _ (script : Script) (start : Tables) where
   -- after these steps of a session, or fewer if it has no further act
-  abbrev walked : ℕ → ℕ → Journal → Journal
+  abbrev pub walked : ℕ → ℕ → Journal → Journal
   walked s zero h = h
   walked s (suc n) h = cond (has_next script h s) (walked s n (with_step script start (Step.Own s) h)) h
 
-  abbrev ordered : Order → Journal → Journal
+  abbrev pub ordered : Order → Journal → Journal
   ordered (Order.Run s n) h = walked s n h
   ordered (Order.Kill s) h = with_step script start (Step.Kill s) h
   ordered _ h = h
 
-  abbrev all_ordered : List Order → Journal → Journal
+  abbrev pub all_ordered : List Order → Journal → Journal
   all_ordered [] h = h
   all_ordered (o ∷ os) h = all_ordered os (ordered o h)
 
   -- some of a journal was played and this is past
-  record IsMade (whole past : Journal) (p : Playing) : Type 0 where
-    made : p.0 ≡ past
-    same : onto p.1 p.0 ≡ whole
+  pub record IsMade (whole past : Journal) (p : Playing) : Type 0 where
+    pub made : p.0 ≡ past
+    pub same : onto p.1 p.0 ≡ whole
 
   made_at : (h es : Journal) (p : Playing) → Some (h, es) ≡ Some p → IsMade (onto es h) h p
   made_at h es p q = let e : (h, es) ≡ p = some_same q in record { made = ap (λ x. x.0) (sym e); same = ap (λ x. onto x.1 x.0) (sym e) }
@@ -199,7 +199,7 @@ module _ (script : Script) (start : Tables) where
   order_made (Order.Evict k) h es p u q = absurd (none_foreign (λ e. is_evict k e.act) (λ e. evict_foreign k e.act) h es p u q)
   order_made Order.Restart h es p u q = absurd (none_foreign (λ e. is_restart e.act) (λ e. restart_foreign e.act) h es p u q)
 
-  orders_made : (os : List Order) (h es : Journal) (p : Playing) → IsUndisturbed script start (onto es h) → play_orders script os h es ≡ Some p → IsMade (onto es h) (all_ordered os h) p
+  pub orders_made : (os : List Order) (h es : Journal) (p : Playing) → IsUndisturbed script start (onto es h) → play_orders script os h es ≡ Some p → IsMade (onto es h) (all_ordered os h) p
   orders_made [] h es p u q = made_at h es p q
   orders_made (o ∷ os) h es p u q =
       let x = bound (λ p. play_orders script os p.0 p.1) (play_order script o h es) p q in

@@ -160,7 +160,7 @@ module _ (script : Script) (start : Tables) where
       let x : (has_next script h s ≡ true) × (is_by s e ≡ true) = own_head e h s (base script start es (e ∷ h) u) p in
       rw (x.0, x.1) (steps s n (e ∷ h) es more u q)
 
-  orders : (os : List Order) (h es : Journal) (more : List Step) → IsUndisturbed script start (onto es h) → list_all is_run_or_kill os ≡ true → steps_in es ≡ steps_of os ++ more →
+  pub orders : (os : List Order) (h es : Journal) (more : List Step) → IsUndisturbed script start (onto es h) → list_all is_run_or_kill os ≡ true → steps_in es ≡ steps_of os ++ more →
       IsLeft (onto es h) (play_orders script os h es) (λ ts. ts ≡ more)
   orders [] h es more u a o = record { past = h; rest = es; at = refl; same = refl; left = o }
   orders (Order.Run s n ∷ os) h es more u a o =

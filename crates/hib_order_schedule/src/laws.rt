@@ -70,6 +70,16 @@ pub fn whole_runs_come_again()
         → h ≡ onto es [] }
 {}
 
+/// Whatever a script plays without faults begins with a journal of its sessions and kills, if its schedule has the runs
+/// and kills of that journal, and then others. The sessions needn't be at their ends.
+pub fn schedules_begin_runs()
+    ensures begins { (script : Script) (start : Tables) (es : List Entry) (more : List Order)
+        (h : Journal) → IsUndisturbed script start (onto es [])
+        → script.schedule ≡ runs_of (steps_in es) ++ more → list_all is_run_or_kill more ≡ true
+        → IsLegal script (Some start) h → IsNumbered h → fault_count h ≡ 0
+        → is_played script h ≡ true → (rest : List Entry) × (h ≡ onto rest (onto es [])) }
+{}
+
 /// The runs and kills that a schedule has to say of a run may be the schedule of its script, if there are 20,000 at
 /// most and the run has 1,000,000 steps at most.
 pub fn shown_runs_fit()
