@@ -9,8 +9,8 @@ ghost use Rattle.hib_journal.specs.Kept.{past};
 ghost use Rattle.hib_journal.specs.Legal.{IsLegal};
 ghost use Rattle.hib_journal.specs.Next.{is_cached};
 ghost use Rattle.hib_journal.specs.Played.{has_next, play_order};
-ghost use Rattle.hib_journal.specs.Runs.{IsNumbered, told_committed, fault_count};
-ghost use Rattle.hib_journal.specs.Sessions.{was_killed};
+ghost use Rattle.hib_journal.specs.Runs.{IsNumbered, told_committed, fault_count, is_fault};
+ghost use Rattle.hib_journal.specs.Sessions.{was_killed, is_open};
 ghost use Rattle.hib_law.specs.Hits.{AreListsGiven};
 ghost use Rattle.hib_law.specs.Law.{Obeys};
 ghost use Rattle.hib_outside.specs.Causes.{Rose};
@@ -35,8 +35,8 @@ use std::alloc::{AllocError, Global};
 use std::marker::Model;
 
 /// Sessions that are given their statements one by one, over shared engines, with the journal of their steps and the
-/// listeners. The step that adds an entry tells it to the listeners. If a listener has no memory for an entry, the entry
-/// stands, but no call adds one more: it answers `Deaf`.
+/// listeners. The step that adds an entry tells it to the listeners. If a listener has no memory for an entry, the
+/// entry stands, but no call adds one more: it answers `Deaf`.
 pub struct Live<K: Keeper, N: Name, L: Listener> {
     core: LiveCore<K, N>,
     listeners: Listeners<L>,
@@ -154,8 +154,8 @@ impl<K: Keeper, N: Name, L: Listener> Live<K, N, L> {
         self.core.ask(alloc, number, statement)
     }
 
-    /// One step of a session, as `LiveCore::step`, and then the listeners hear of its entry. If one has no memory for it the
-    /// entry stands, the answer is `Deaf`, and so is that of each later call that would add an entry.
+    /// One step of a session, as `LiveCore::step`, and then the listeners hear of its entry. If one has no memory for
+    /// it the entry stands, the answer is `Deaf`, and so is that of each later call that would add an entry.
     pub fn step(&mut self, alloc: Global, number: SessionNo) -> Result<Stepped, Refusal>
         ensures asked { self.new.script ≡ self.old.script }
         ensures did { result ≡ Ok Stepped.Did
@@ -163,6 +163,9 @@ impl<K: Keeper, N: Name, L: Listener> Live<K, N, L> {
             self.old.sessions self.new.sessions }
         ensures done { result ≡ Ok Stepped.Done
             → IsOver self.old.script number (past self.old.journal) (past self.new.journal) }
+        ensures fault { (e : Entry) → past self.new.journal ≡ e ∷ past self.old.journal
+            → is_fault e.reply ≡ true → Rose self.old.engines.store.faults
+            self.new.engines.store.faults }
         ensures asks_once { (e : Entry) → past self.new.journal ≡ e ∷ past self.old.journal
             → IsAskedFor (past self.old.journal) number e.act self.old.engines self.new.engines }
         ensures hears { Hears (past self.old.journal) (past self.new.journal)
@@ -201,7 +204,8 @@ impl<K: Keeper, N: Name, L: Listener> Live<K, N, L> {
         }
     }
 
-    /// Kills a session, if it is open, as `LiveCore::kill`, and then the listeners hear of it. What want of memory leaves is as after `step`.
+    /// Kills a session, if it is open, as `LiveCore::kill`, and then the listeners hear of it. What want of memory
+    /// leaves is as after `step`.
     pub fn kill(&mut self, alloc: Global, number: SessionNo) -> Result<(), Refusal>
         ensures asked { self.new.script ≡ self.old.script }
         ensures obeyed { OnOk result (Leads (play_order self.old.script (Order.Kill number)) played
@@ -234,7 +238,8 @@ impl<K: Keeper, N: Name, L: Listener> Live<K, N, L> {
         }
     }
 
-    /// Evicts a row from its region, as `LiveCore::evict`, and then the listeners hear of it. What want of memory leaves is as after `step`.
+    /// Evicts a row from its region, as `LiveCore::evict`, and then the listeners hear of it. What want of memory
+    /// leaves is as after `step`.
     pub fn evict(&mut self, alloc: Global, key: Key) -> Result<(), Refusal>
         ensures asked { self.new.script ≡ self.old.script }
         ensures obeyed { OnOk result (Leads (play_order self.old.script (Order.Evict key)) played
@@ -264,7 +269,8 @@ impl<K: Keeper, N: Name, L: Listener> Live<K, N, L> {
         }
     }
 
-    /// A restart, as `LiveCore::restart`, and then the listeners hear of it. What want of memory leaves is as after `step`.
+    /// A restart, as `LiveCore::restart`, and then the listeners hear of it. What want of memory leaves is as after
+    /// `step`.
     pub fn restart(&mut self, alloc: Global) -> Result<(), Refusal>
         ensures asked { self.new.script ≡ self.old.script }
         ensures obeyed { OnOk result (Leads (play_order self.old.script Order.Restart) played
@@ -292,6 +298,22 @@ impl<K: Keeper, N: Name, L: Listener> Live<K, N, L> {
             Ok(()) => Ok(()),
             Err(_) => Err(Refusal::Deaf),
         }
+    }
+
+    /// Whether a session is open, as `LiveCore::is_open`.
+    pub fn is_open(&self, number: SessionNo) -> bool
+        ensures { result ≡ is_open number (past self.now.journal) }
+    {
+        self.core.is_open(number)
+    }
+
+    /// Whether a session was killed, as `LiveCore::was_killed`.
+    pub fn was_killed(&self, number: SessionNo) -> bool
+        ensures there { number < length self.now.sessions
+            → result ≡ was_killed number (past self.now.journal) }
+        ensures absent { length self.now.sessions ≤ number → result ≡ false }
+    {
+        self.core.was_killed(number)
     }
 
     /// What was asked so far, as a script.

@@ -42,8 +42,8 @@ use std::marker::{Model, PhantomData};
 /// How many sessions may begin: a session's number is less.
 const MOST_SESSIONS: usize = (1 << 32) - 1;
 
-/// Sessions over shared engines, which are given their statements one by one, with what was asked so far as a script, and
-/// the journal of their steps. The journal is legal for that script from the name's rows.
+/// Sessions over shared engines, which are given their statements one by one, with what was asked so far as a script,
+/// and the journal of their steps. The journal is legal for that script from the name's rows.
 pub struct LiveCore<K: Keeper, N: Name> {
     script: Script,
     engines: Engines<K>,
@@ -77,9 +77,9 @@ impl<K: Keeper, N: Name> Model for LiveCore<K, N> {
 }
 
 impl<K: Keeper, N: Name> LiveCore<K, N> {
-    /// Opens the core of the live factory of this name, with the sessions that the script has, if any, none of which has
-    /// begun. The rows that the keeper keeps are widened to the script's mapping, and each of the script's rows whose key
-    /// has none is added. At an error the keeper is handed back, with the rows that it had.
+    /// Opens the core of the live factory of this name, with the sessions that the script has, if any, none of which
+    /// has begun. The rows that the keeper keeps are widened to the script's mapping, and each of the script's rows
+    /// whose key has none is added. At an error the keeper is handed back, with the rows that it had.
     pub fn open(alloc: Global, script: Script, keeper: K) -> Result<LiveCore<K, N>, OpenFault<K>>
         requires script { script ≡ N.script }
         requires valid { is_valid N.script ≡ true }
@@ -107,8 +107,8 @@ impl<K: Keeper, N: Name> LiveCore<K, N> {
         })
     }
 
-    /// One more session, behind the others, which has no statement yet. It is named `s` and its number from 1. At an error,
-    /// which is want of memory or too many sessions, nothing has changed.
+    /// One more session, behind the others, which has no statement yet. It is named `s` and its number from 1. At an
+    /// error, which is want of memory or too many sessions, nothing has changed.
     pub fn begin(&mut self, alloc: Global) -> Result<SessionNo, AllocError>
         ensures number { IfOk result (λ n. n ≡ length self.old.script.sessions) }
         ensures begun { OnOk result (HasBegun self.old self.new) }
@@ -128,12 +128,14 @@ impl<K: Keeper, N: Name> LiveCore<K, N> {
         Ok(SessionNo(number))
     }
 
-    /// Whether a session was killed, by a kill or by a restart. It must be there.
-    fn was_killed(&self, number: SessionNo) -> bool
-        requires there { number < length self.now.sessions }
-        ensures { result ≡ was_killed number (past self.now.journal) }
+    /// Whether a session was killed, by a kill or by a restart. One that isn't there wasn't.
+    pub fn was_killed(&self, number: SessionNo) -> bool
+        ensures there { number < length self.now.sessions
+            → result ≡ was_killed number (past self.now.journal) }
+        ensures absent { length self.now.sessions ≤ number → result ≡ false }
     {
-        self.sessions[number.0 as usize].was_killed()
+        let place = number.0 as usize;
+        place < self.sessions.len() && self.sessions[place].was_killed()
     }
 
     /// Whether a session could take a statement; else why not.
@@ -186,8 +188,8 @@ impl<K: Keeper, N: Name> LiveCore<K, N> {
         }
     }
 
-    /// Gives a session one more statement, which must be of the declared entities, columns and queries. No step of it is
-    /// made yet. A session that has steps left takes none. At an error nothing has changed.
+    /// Gives a session one more statement, which must be of the declared entities, columns and queries. No step of it
+    /// is made yet. A session that has steps left takes none. At an error nothing has changed.
     pub fn ask(
         &mut self,
         alloc: Global,
@@ -226,9 +228,9 @@ impl<K: Keeper, N: Name> LiveCore<K, N> {
     }
 
     /// One step of a session: the act that is due in it, if one is. The other sessions stay as they are. The keeper is
-    /// asked once at most, and only if the act asks for rows. If there is no such session nothing has changed. If memory
-    /// runs out no entry is added and nothing has changed, but the keeper's counts if the act calls it; so a later call may
-    /// succeed.
+    /// asked once at most, and only if the act asks for rows. If there is no such session nothing has changed. If
+    /// memory runs out no entry is added and nothing has changed, but the keeper's counts if the act calls it; so a
+    /// later call may succeed.
     pub fn step(&mut self, alloc: Global, number: SessionNo) -> Result<Stepped, Refusal>
         ensures asked { self.new.script ≡ self.old.script }
         ensures did { result ≡ Ok Stepped.Did
@@ -298,8 +300,8 @@ impl<K: Keeper, N: Name> LiveCore<K, N> {
         self.script.sessions.len()
     }
 
-    /// Kills a session, if it is open: no act of it is due from then on, and its locks stay until their time is over. If
-    /// memory runs out nothing has changed.
+    /// Kills a session, if it is open: no act of it is due from then on, and its locks stay until their time is over.
+    /// If memory runs out nothing has changed.
     pub fn kill(&mut self, number: SessionNo) -> Result<(), AllocError>
         ensures asked { self.new.script ≡ self.old.script }
         ensures killed { OnOk result (Leads (play_order self.old.script (Order.Kill number)) played

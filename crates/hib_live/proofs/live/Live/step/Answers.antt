@@ -1,7 +1,9 @@
-use Rattle.std.proofs.Common.{◌≡◌, ◌∷◌, Ok, is_ok, refl, sym, ap, subst, ◌∙◌}
+use Rattle.std.proofs.Common.{◌≡◌, ◌∷◌, true, Ok, is_ok, refl, sym, ap, subst, ◌∙◌}
 use Rattle.hib_base.specs.declared.entries.Entry.{Entry}
 use Rattle.hib_journal.specs.Kept.{past}
 use Rattle.hib_journal.specs.Sessions.{Journal}
+use Rattle.hib_journal.specs.Runs.{is_fault}
+use Rattle.hib_outside.specs.Causes.{Rose}
 use Rattle.hib_listeners.specs.Told.{tells}
 use Rattle.hib_engines.specs.Engines.{IsAskedFor}
 use Rattle.hib_core.specs.Factory.{HasGrown}
@@ -66,3 +68,11 @@ returns-in-Done-clause-asks_once g c =
 pub returns-after-tell-clause-asks_once : goal.returns-after-tell-clause-asks_once
 returns-after-tell-clause-asks_once g c =
     subst (λ (v : HeardState). (e : Entry) → past c.step.new.self.journal ≡ e ∷ past v.journal → IsAskedFor (past v.journal) c.args.number e.act v.engines c.step.new.self.engines) c.self.view_is c.step.ensures.asks_once
+
+pub returns-in-Done-clause-fault : goal.returns-in-Done-clause-fault
+returns-in-Done-clause-fault g c =
+    subst (λ (v : HeardState). (e : Entry) → past c.step.new.self.journal ≡ e ∷ past v.journal → is_fault e.reply ≡ true → Rose v.engines.store.faults c.step.new.self.engines.store.faults) c.self.view_is c.step.ensures.fault
+
+pub returns-after-tell-clause-fault : goal.returns-after-tell-clause-fault
+returns-after-tell-clause-fault g c =
+    subst (λ (v : HeardState). (e : Entry) → past c.step.new.self.journal ≡ e ∷ past v.journal → is_fault e.reply ≡ true → Rose v.engines.store.faults c.step.new.self.engines.store.faults) c.self.view_is c.step.ensures.fault
