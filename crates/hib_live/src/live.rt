@@ -21,6 +21,7 @@ ghost use Rattle.hib_core.specs.Factory.{Does, IsOver, IsStepRefused, Hears};
 ghost use Rattle.hib_core.specs.Playing.{played, Leads};
 ghost use Rattle.hib_listeners.specs.Told.{tells};
 ghost use Rattle.hib_listeners.specs.Heard.{HaveHeard};
+ghost use Rattle.hib_live_law.specs.Grown.{HasGrown as HasGrownInto};
 ghost use Rattle.hib_live.specs.Live.{HasBegun, HasTaken, live_of};
 ghost use Rattle.hib_live.specs.declared.refusal.Refusal.{Refusal};
 
@@ -339,6 +340,7 @@ impl<K: Keeper, N: Name, L: Listener> Live<K, N, L> {
 
     /// Says to proofs what holds of the journal at any time, as `LiveCore::lawful`. It does nothing.
     pub fn lawful(&self)
+        ensures grown { HasGrownInto N.script self.now.script }
         ensures legal { IsLegal self.now.script N.from.tables (past self.now.journal) }
         ensures numbered { IsNumbered (past self.now.journal) }
         ensures law { Obeys self.now.script N.from.tables (past self.now.journal) }

@@ -20,6 +20,7 @@ ghost use Rattle.hib_engines.specs.Engines.{IsStill, IsAskedFor};
 ghost use Rattle.hib_core.specs.Standing.{RoseBy, origin_over};
 ghost use Rattle.hib_core.specs.Factory.{Does, IsOver, IsStepRefused, HasGrown};
 ghost use Rattle.hib_core.specs.Playing.{played, Leads};
+ghost use Rattle.hib_live_law.specs.Grown.{HasGrown as HasGrownInto};
 ghost use Rattle.hib_live.specs.Asked.{with_session};
 ghost use Rattle.hib_live.specs.Live.{HasBegun, HasTaken};
 ghost use Rattle.hib_live.specs.declared.refusal.Refusal.{Refusal};
@@ -373,6 +374,7 @@ impl<K: Keeper, N: Name> LiveCore<K, N> {
     /// Says to proofs what holds of the journal at any time: it is legal for what was asked, its ticks are numbered, it
     /// obeys the law, and each list from the cache is what its query gave at the moment of the hit. It does nothing.
     pub fn lawful(&self)
+        ensures grown { HasGrownInto N.script self.now.script }
         ensures legal { IsLegal self.now.script N.from.tables (past self.now.journal) }
         ensures numbered { IsNumbered (past self.now.journal) }
         ensures law { Obeys self.now.script N.from.tables (past self.now.journal) }

@@ -5,8 +5,10 @@
 mod answers;
 mod session;
 mod shared;
+mod threads;
 
 pub use answers::{Unanswered, answers};
 pub use hib_live::{Live, Name, Refusal};
 pub use session::Session;
 pub use shared::{Hold, Shared};
+pub use threads::{Clerk, work_together};

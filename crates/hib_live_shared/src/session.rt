@@ -1,11 +1,12 @@
 // A session of a shared live factory.
-ghost use Rattle.hib_live_shared.specs.Answers.{answers};
+ghost use Rattle.hib_live_shared.specs.Answers.{IsSaid, IsFound, IsListed, IsAnswered};
+ghost use Rattle.hib_base.specs.declared.replies.Reply.{Reply};
 ghost use Rattle.std.specs.Prelude.{◌≡◌, true, IfOk, IfSome};
 
-use crate::answers::{Unanswered, answers};
+use crate::answers::{Unanswered, answers, list_told, row_told};
 use crate::shared::{Hold, Shared};
 use hib_base::{
-    Cells, Commit, Key, Listing, Mode, QueryNo, Reply, Row, SessionNo, Sets, Statement,
+    Cells, Commit, Entry, Key, Listing, Mode, QueryNo, Reply, Row, SessionNo, Sets, Statement,
 };
 use hib_live::{Live, Name, Refusal, Stepped};
 use hib_outside::{Keeper, Listener};
@@ -22,38 +23,67 @@ pub struct Session<'a, R: Wait, K: Keeper, N: Name, L: Listener> {
     number: SessionNo,
 }
 
-/// What a step came to.
-enum Made {
-    /// The statement is over.
-    Over,
-    /// A step was made, which is no answer.
-    Quiet,
-    /// A step was made, and this is the answer.
-    Answer(Reply),
+/// What steps came to.
+struct Progress {
+    /// Whether the statement is over.
+    over: bool,
+    /// The newest entry among them that answers it, if one does.
+    answer: Option<Entry>,
 }
 
-/// One step of a session, and its reply if that is an answer.
+/// One step of a session.
 fn make_step<K: Keeper, N: Name, L: Listener>(
     alloc: Global,
     live: &mut Live<K, N, L>,
     number: SessionNo,
-) -> Result<Made, Refusal> {
+) -> Result<Progress, Refusal>
+    ensures { IfOk result (λ p. IfSome p.answer (IsSaid N.script N.from number)) }
+{
     if live.step(alloc, number)? == Stepped::Done {
         if live.was_killed(number) {
             return Err(Refusal::Killed);
         }
-        return Ok(Made::Over);
+        return Ok(Progress {
+            over: true,
+            answer: None,
+        });
     }
-    let Some(entry) = live.journal().last() else {
-        return Ok(Made::Quiet);
-    };
-    if !answers(&entry.reply) {
-        return Ok(Made::Quiet);
+    live.lawful();
+    match live.journal().last() {
+        Some(entry) if answers(&entry.reply) => match entry.copy(alloc) {
+            Ok(entry) => Ok(Progress {
+                over: false,
+                answer: Some(entry),
+            }),
+            Err(_) => Err(Refusal::NoMemory),
+        },
+        _ => Ok(Progress {
+            over: false,
+            answer: None,
+        }),
     }
-    match entry.reply.copy(alloc) {
-        Ok(reply) => Ok(Made::Answer(reply)),
-        Err(_) => Err(Refusal::NoMemory),
+}
+
+/// All steps that a session's statement has left.
+fn make_steps<R: Wait, K: Keeper, N: Name, L: Listener>(
+    rt: &R,
+    alloc: Global,
+    live: &mut Live<K, N, L>,
+    number: SessionNo,
+) -> Result<Progress, Refusal>
+    ensures { IfOk result (λ p. IfSome p.answer (IsSaid N.script N.from number)) }
+{
+    let mut answer = None;
+    for _ in rt.forever() {
+        let made = make_step(alloc, live, number)?;
+        if made.answer.is_some() {
+            answer = made.answer;
+        }
+        if made.over {
+            break;
+        }
     }
+    Ok(Progress { over: true, answer })
 }
 
 impl<'a, R: Wait, K: Keeper, N: Name, L: Listener> Session<'a, R, K, N, L> {
@@ -77,102 +107,167 @@ impl<'a, R: Wait, K: Keeper, N: Name, L: Listener> Session<'a, R, K, N, L> {
         self.number
     }
 
-    /// Makes a statement, and gives the reply that answers it, if one does: none answers a flush and a change of mode.
-    pub fn say(&mut self, statement: Statement) -> Result<Option<Reply>, Refusal> {
+    /// Makes a statement, and gives the entry that answers it, if one does: none answers a flush and a change of mode.
+    pub fn say(&mut self, statement: Statement) -> Result<Option<Entry>, Refusal>
+        ensures said { IfOk result (λ o. IfSome o (IsSaid N.script N.from self.old.number)) }
+        ensures same { self.new.number ≡ self.old.number }
+    {
         self.shared
             .lock(self.rt)
             .ask(self.alloc, self.number, statement)?;
         self.go_on()
     }
 
-    /// Makes the steps that the session's statement has left, and gives the reply among them that answers it, if one does.
-    pub fn go_on(&mut self) -> Result<Option<Reply>, Refusal> {
+    /// Makes the steps that the session's statement has left, and gives the entry among them that answers it, if one does.
+    pub fn go_on(&mut self) -> Result<Option<Entry>, Refusal>
+        ensures said { IfOk result (λ o. IfSome o (IsSaid N.script N.from self.old.number)) }
+        ensures same { self.new.number ≡ self.old.number }
+    {
         let mut answer = None;
         for _ in self.rt.forever() {
-            let mut live = self.shared.lock(self.rt);
-            for _ in self.rt.forever() {
-                match make_step(self.alloc, &mut *live, self.number)? {
-                    Made::Over => return Ok(answer),
-                    Made::Quiet => {}
-                    Made::Answer(reply) => answer = Some(reply),
-                }
-                if self.shared.hold() == Hold::Step {
-                    break;
-                }
+            let made = self.make_some()?;
+            if made.answer.is_some() {
+                answer = made.answer;
+            }
+            if made.over {
+                break;
             }
         }
         Ok(answer)
     }
 
+    /// The steps of one hold of the lock.
+    fn make_some(&self) -> Result<Progress, Refusal>
+        ensures { IfOk result (λ p. IfSome p.answer (IsSaid N.script N.from self.now.number)) }
+    {
+        let mut live = self.shared.lock(self.rt);
+        match self.shared.hold() {
+            Hold::Step => make_step(self.alloc, &mut *live, self.number),
+            Hold::Statement => make_steps(self.rt, self.alloc, &mut *live, self.number),
+        }
+    }
+
     /// A row, as this session sees it: its own change, or else what is cached or stored.
-    pub fn find(&mut self, key: Key) -> Result<Option<Row>, Unanswered> {
-        match self.say(Statement::Find { key })? {
-            Some(Reply::Hit(row)) => Ok(Some(row)),
-            Some(Reply::Row(row)) => Ok(row),
-            _ => Err(Unanswered::Fault),
+    pub fn find(&mut self, key: Key) -> Result<Option<Row>, Unanswered>
+        ensures found { IfOk result (IsFound N.script N.from self.old.number key) }
+        ensures same { self.new.number ≡ self.old.number }
+    {
+        let Some(entry) = self.say(Statement::Find { key })? else {
+            return Err(Unanswered::Fault);
+        };
+        match row_told(key, entry) {
+            Some(row) => Ok(row),
+            None => Err(Unanswered::Fault),
         }
     }
 
     /// What a query gives.
-    pub fn list(&mut self, query: QueryNo) -> Result<Listing, Unanswered> {
-        match self.say(Statement::List { query })? {
-            Some(Reply::Listed(list)) => Ok(list),
-            Some(Reply::Found { time: _, list }) => Ok(list),
-            _ => Err(Unanswered::Fault),
+    pub fn list(&mut self, query: QueryNo) -> Result<Listing, Unanswered>
+        ensures listed { IfOk result (IsListed N.script N.from self.old.number query) }
+        ensures same { self.new.number ≡ self.old.number }
+    {
+        let Some(entry) = self.say(Statement::List { query })? else {
+            return Err(Unanswered::Fault);
+        };
+        match list_told(query, entry) {
+            Some(list) => Ok(list),
+            None => Err(Unanswered::Fault),
+        }
+    }
+
+    /// The reply that answers a statement, if one does.
+    fn reply(&mut self, statement: Statement) -> Result<Option<Reply>, Unanswered>
+        ensures answered { IfOk result (λ o. IfSome o
+            (IsAnswered N.script N.from self.old.number)) }
+        ensures same { self.new.number ≡ self.old.number }
+    {
+        match self.say(statement)? {
+            Some(entry) => Ok(Some(entry.reply)),
+            None => Ok(None),
         }
     }
 
     /// Makes a row that is stored at the next flush. `false` if nothing has changed, since the session holds the key, or
     /// has written it.
-    pub fn persist(&mut self, key: Key, cells: Cells) -> Result<bool, Unanswered> {
-        let answer = self.say(Statement::Persist { key, cells })?;
-        Ok(matches!(answer, Some(Reply::New)))
+    pub fn persist(&mut self, key: Key, cells: Cells) -> Result<bool, Unanswered>
+        ensures done { IfOk result (λ is. is ≡ true
+            → IsAnswered N.script N.from self.old.number Reply.New) }
+        ensures same { self.new.number ≡ self.old.number }
+    {
+        match self.reply(Statement::Persist { key, cells })? {
+            Some(Reply::New) => Ok(true),
+            _ => Ok(false),
+        }
     }
 
     /// Sets columns of a row that the session has found or made. `false` if nothing has changed: the session doesn't hold
     /// the row, has removed it, or its entity is never updated.
-    pub fn set(&mut self, key: Key, cells: Sets) -> Result<bool, Unanswered> {
-        let answer = self.say(Statement::Set { key, cells })?;
-        Ok(matches!(answer, Some(Reply::Set)))
+    pub fn set(&mut self, key: Key, cells: Sets) -> Result<bool, Unanswered>
+        ensures done { IfOk result (λ is. is ≡ true
+            → IsAnswered N.script N.from self.old.number Reply.Set) }
+        ensures same { self.new.number ≡ self.old.number }
+    {
+        match self.reply(Statement::Set { key, cells })? {
+            Some(Reply::Set) => Ok(true),
+            _ => Ok(false),
+        }
     }
 
     /// Marks a row that the session has found for removal. `false` if nothing has changed, since the session doesn't hold
     /// it, or has removed it.
-    pub fn remove(&mut self, key: Key) -> Result<bool, Unanswered> {
-        let answer = self.say(Statement::Remove { key })?;
-        Ok(matches!(answer, Some(Reply::Removed)))
+    pub fn remove(&mut self, key: Key) -> Result<bool, Unanswered>
+        ensures done { IfOk result (λ is. is ≡ true
+            → IsAnswered N.script N.from self.old.number Reply.Removed) }
+        ensures same { self.new.number ≡ self.old.number }
+    {
+        match self.reply(Statement::Remove { key })? {
+            Some(Reply::Removed) => Ok(true),
+            _ => Ok(false),
+        }
     }
 
     /// Writes the session's changes to the store, which commits none of them.
-    pub fn flush(&mut self) -> Result<(), Unanswered> {
-        self.say(Statement::Flush)?;
+    pub fn flush(&mut self) -> Result<(), Unanswered>
+        ensures same { self.new.number ≡ self.old.number }
+    {
+        self.reply(Statement::Flush)?;
         Ok(())
     }
 
     /// Forgets the rows that the session holds, and its changes that weren't written.
-    pub fn clear(&mut self) -> Result<(), Unanswered> {
-        self.say(Statement::Clear)?;
+    pub fn clear(&mut self) -> Result<(), Unanswered>
+        ensures same { self.new.number ≡ self.old.number }
+    {
+        self.reply(Statement::Clear)?;
         Ok(())
     }
 
     /// Sets how the session uses the cache.
-    pub fn mode(&mut self, mode: Mode) -> Result<(), Unanswered> {
-        self.say(Statement::Mode { mode })?;
+    pub fn mode(&mut self, mode: Mode) -> Result<(), Unanswered>
+        ensures same { self.new.number ≡ self.old.number }
+    {
+        self.reply(Statement::Mode { mode })?;
         Ok(())
     }
 
     /// Ends the transaction. `Committed` if its changes are in the store for everyone; else none is, and the answer says
     /// why: a stale one may be tried again from its finds on, after a `clear`.
-    pub fn commit(&mut self) -> Result<Commit, Unanswered> {
-        match self.say(Statement::Commit)? {
+    pub fn commit(&mut self) -> Result<Commit, Unanswered>
+        ensures ended { IfOk result (λ outcome.
+            IsAnswered N.script N.from self.old.number (Reply.Commit outcome)) }
+        ensures same { self.new.number ≡ self.old.number }
+    {
+        match self.reply(Statement::Commit)? {
             Some(Reply::Commit(outcome)) => Ok(outcome),
             _ => Err(Unanswered::Fault),
         }
     }
 
     /// Ends the transaction, and takes back its changes.
-    pub fn rollback(&mut self) -> Result<(), Unanswered> {
-        self.say(Statement::Rollback)?;
+    pub fn rollback(&mut self) -> Result<(), Unanswered>
+        ensures same { self.new.number ≡ self.old.number }
+    {
+        self.reply(Statement::Rollback)?;
         Ok(())
     }
 }

@@ -1,19 +1,28 @@
-//! Live sessions: clerks sell the copies of a book, until none is left. What a clerk does next hangs on what it was
-//! answered, and the steps of the others come between. A commit that comes too late sells nothing, and its clerk looks
-//! again. All four look at the same copy, so one sells it and three come too late: the end is `sold 9, too late 27`.
+//! Live sessions on threads: four clerks sell the copies of a book from one stock, until none is left. What a clerk does
+//! next hangs on what it was answered, and the steps of the others come between. A commit that comes too late sells
+//! nothing, and its clerk looks again. However their steps come, nine copies are sold. With the word `record` the program
+//! prints the script that the run amounts to instead: `hib play` plays the same steps.
 #![tactic(auto)]
+
+mod clerks;
 
 ghost use Rattle.std.specs.Prelude.{◌≡◌, true};
 ghost use Rattle.hib_base.specs.Valid.{is_valid};
 ghost use Rattle.hib_core.specs.Standing.{origin_over};
+ghost use Rattle.hib_listeners.specs.Told.{tells};
 
-use hib_base::{Cell, Commit, EntityNo, Key, Reply, Row, Script, Seq, SessionNo, Statement};
+use clerks::Clerks;
+use hib_base::{Script, Seq};
 use hib_journal::Journal;
-use hib_live::{LiveCore, Name, Refusal, Stepped};
-use hib_outside::{Keeper, MemKeeper};
+use hib_live_record::record_run;
+use hib_live_shared::{Hold, Live, Name, Shared, work_together};
+use hib_listeners::Recorder;
+use hib_outside::{Keeper, Listener, MemKeeper};
 use std::alloc::{AllocError, Global};
-use std::io;
 use std::marker::Brand;
+use std::sync::Wait;
+use std::thread::Threads;
+use std::{env, io};
 
 /// The mapping, with a book of which nine are in stock.
 const SHOP: &[u8] = b"hib 1
@@ -23,195 +32,92 @@ column stock int
 row Book 1 v0 \"Dune\" 9
 ";
 
-const DUNE: Key = Key {
-    entity: EntityNo(0),
-    id: 1,
-};
-
 /// How many clerks there are.
 const CLERKS: u32 = 4;
 
-/// How often it is each clerk's turn at most.
-const MOST_ROUNDS: u32 = 1000;
-
-/// What a clerk does next.
-#[derive(Clone, Copy, PartialEq, Eq)]
-enum Next {
-    /// It asks for the book.
-    Look,
-    /// It has asked, and sells one if any is left.
-    Decide,
-    /// It commits the sale.
-    Commit,
-    /// It forgets what it holds.
-    Forget,
-    /// It goes home.
-    Leave,
-    /// It is at home.
-    Home,
+/// What a day in the shop came to.
+struct Day {
+    /// How many copies were sold.
+    sold: usize,
+    /// What was asked, as a script.
+    asked: Script,
+    /// The steps that were made.
+    journal: Journal,
 }
 
-/// A clerk, who speaks in a session of its own.
-#[derive(Clone, Copy)]
-struct Clerk {
-    session: SessionNo,
-    next: Next,
-}
-
-/// How many copies a row tells of.
-fn stock(row: &Row) -> i64 {
-    match row.cells.as_slice().get(1) {
-        Some(Cell::Int(n)) => *n,
-        _ => 0,
-    }
-}
-
-/// How many copies the newest row tells of that the session was answered.
-fn seen(journal: &Journal, session: SessionNo) -> i64 {
-    for entry in journal.as_slice().iter().rev() {
-        if entry.session == Some(session) {
-            match &entry.reply {
-                Reply::Hit(row) => return stock(row),
-                Reply::Row(Some(row)) => return stock(row),
-                _ => {}
-            }
-        }
-    }
-    0
-}
-
-/// A statement that sets the stock.
-fn set(alloc: Global, left: i64) -> Result<Statement, AllocError> {
-    let sets = vec![in alloc; (1, Cell::Int(left))]?;
-    Ok(Statement::Set {
-        key: DUNE,
-        cells: Seq::from_vec(sets),
-    })
-}
-
-/// What the clerk asks next, and what it does after that.
-fn decide(
-    alloc: Global,
-    journal: &Journal,
-    clerk: Clerk,
-) -> Result<Option<(Statement, Next)>, AllocError> {
-    match clerk.next {
-        Next::Look => Ok(Some((Statement::Find { key: DUNE }, Next::Decide))),
-        Next::Decide => {
-            let left = seen(journal, clerk.session);
-            if left > 0 {
-                Ok(Some((set(alloc, left - 1)?, Next::Commit)))
-            } else {
-                Ok(Some((Statement::Rollback, Next::Leave)))
-            }
-        }
-        Next::Commit => Ok(Some((Statement::Commit, Next::Forget))),
-        Next::Forget => Ok(Some((Statement::Clear, Next::Look))),
-        Next::Leave | Next::Home => Ok(None),
-    }
-}
-
-/// One step of a clerk: of the statement that it has asked, or else it asks the next.
-fn go_on<N: Name, K: Keeper>(
-    alloc: Global,
-    shop: &mut LiveCore<K, N>,
-    clerk: &mut Clerk,
-) -> Result<(), Refusal> {
-    if shop.step(alloc, clerk.session)? == Stepped::Did {
-        return Ok(());
-    }
-    match decide(alloc, shop.journal(), *clerk) {
-        Ok(Some((statement, next))) => {
-            shop.ask(alloc, clerk.session, statement)?;
-            clerk.next = next;
-            Ok(())
-        }
-        Ok(None) => {
-            clerk.next = Next::Home;
-            Ok(())
-        }
-        Err(_) => Err(Refusal::NoMemory),
-    }
-}
-
-/// How many commits changed something, and how many came too late.
-#[derive(Clone, Copy)]
-struct Sales {
-    made: u64,
-    late: u64,
-}
-
-fn count(journal: &Journal) -> Sales {
-    let mut sales = Sales { made: 0, late: 0 };
-    for entry in journal.as_slice() {
-        match &entry.reply {
-            Reply::Commit(Commit::Committed) => sales.made = sales.made.saturating_add(1),
-            Reply::Commit(Commit::Stale { .. }) => sales.late = sales.late.saturating_add(1),
-            _ => {}
-        }
-    }
-    sales
-}
-
-/// The clerks sell in the live factory of this name, each a step at a time. The journal of all their steps; none if it
-/// wasn't opened.
-fn sell_in<N: Name, K: Keeper + Drop>(
-    alloc: Global,
-    script: Script,
-    keeper: K,
-) -> Result<Option<Journal>, Refusal>
+/// The clerks sell in the live factory of this name. None if it wasn't opened.
+fn sell_in<
+    R: Threads + Wait + Sync,
+    N: Name + Send + Sync,
+    K: Keeper + Send + Drop,
+    L: Listener,
+>(rt: &R, alloc: Global, script: Script, keeper: K, listeners: Vec<L>) -> Option<Day>
     requires script { script ≡ N.script }
     requires valid { is_valid N.script ≡ true }
     requires from { origin_over N.script (K.tables keeper) (K.faults keeper) (K.asked keeper)
         ≡ N.from }
+    requires told { tells L.heard L.left listeners.items ≡ N.told }
 {
-    let Ok(mut shop) = LiveCore::<K, N>::open(alloc, script, keeper) else {
-        return Ok(None);
+    let Ok(live) = Live::<K, N, L>::open(alloc, script, keeper, listeners) else {
+        return None;
     };
-    let took = take_turns(alloc, &mut shop);
-    let (_keeper, _asked, journal) = shop.close();
-    took?;
-    Ok(Some(journal))
+    let shop = Shared::new(live, Hold::Step);
+    let clerks = Clerks::new();
+    work_together(rt, alloc, &shop, CLERKS, &clerks);
+    let (_keeper, asked, journal, _listeners) = shop.close().close();
+    Some(Day {
+        sold: clerks.sold(),
+        asked,
+        journal,
+    })
 }
 
-/// Lets each clerk begin, and then go on in turns until all are at home.
-fn take_turns<N: Name, K: Keeper>(alloc: Global, shop: &mut LiveCore<K, N>) -> Result<(), Refusal> {
-    let Ok(mut clerks) = Vec::with_capacity(alloc, CLERKS as usize) else {
-        return Err(Refusal::NoMemory);
-    };
-    for _ in 0..CLERKS {
-        let Ok(session) = shop.begin(alloc) else {
-            return Err(Refusal::NoMemory);
-        };
-        if clerks
-            .push(Clerk {
-                session,
-                next: Next::Look,
-            })
-            .is_err()
-        {
-            return Err(Refusal::NoMemory);
-        }
-    }
-    for _ in 0..MOST_ROUNDS {
-        for clerk in &mut clerks {
-            if clerk.next != Next::Home {
-                go_on(alloc, shop, clerk)?;
-            }
-        }
-    }
-    Ok(())
-}
-
-/// The clerks sell in a live factory. The journal of all their steps; none if it wasn't opened.
-fn sell<K: Keeper + Drop>(
+/// The clerks sell. None if the shop wasn't opened.
+fn sell<R: Threads + Wait + Sync, K: Keeper + Send + Drop, L: Listener>(
+    rt: &R,
     alloc: Global,
     script: Script,
     keeper: K,
-) -> Result<Option<Journal>, Refusal>
+    listeners: Vec<L>,
+) -> Option<Day>
     requires { is_valid script ≡ true }
 {
-    sell_in::<Brand, K>(alloc, script, keeper)
+    sell_in::<R, Brand, K, L>(rt, alloc, script, keeper, listeners)
+}
+
+/// The text of the script that a day amounts to. None if a step of it can't be played again.
+fn record(alloc: Global, day: Day) -> Result<Option<Vec<u8>>, AllocError> {
+    let Day {
+        sold: _,
+        mut asked,
+        journal,
+    } = day;
+    match record_run(alloc, &mut asked, journal.as_slice())? {
+        None => Ok(Some(hib_print::print(alloc, &asked)?.into_vec())),
+        Some(_) => Ok(None),
+    }
+}
+
+/// Prints the record of a day.
+fn print_record(rt: &HostRuntime, day: Day) -> io::Result<()> {
+    match record(rt.alloc(), day) {
+        Ok(Some(text)) => match String::from_utf8(text) {
+            Ok(text) => rt.print(text.as_str()),
+            Err(_) => rt.println("a name isn't UTF-8"),
+        },
+        Ok(None) => rt.println("a step can't be played again"),
+        Err(_) => rt.println("memory ran out"),
+    }
+}
+
+/// Whether the record was asked for.
+fn is_record_asked(rt: &HostRuntime) -> io::Result<bool> {
+    for word in env::args(rt)?.skip(1) {
+        if word.as_str() == "record" {
+            return Ok(true);
+        }
+    }
+    Ok(false)
 }
 
 fn main(rt: HostRuntime) -> io::Result<()> {
@@ -220,12 +126,15 @@ fn main(rt: HostRuntime) -> io::Result<()> {
         return rt.println("the shop is no script");
     };
     let keeper = MemKeeper::new(alloc, Seq::new(alloc));
-    match sell(alloc, script, keeper) {
-        Ok(Some(journal)) => {
-            let sales = count(&journal);
-            println!(rt; "sold {}, too late {}", sales.made, sales.late)
+    let nobody: Vec<Recorder> = Vec::new(alloc);
+    match sell(&rt, alloc, script, keeper, nobody) {
+        None => rt.println("the shop wasn't opened"),
+        Some(day) => {
+            if is_record_asked(&rt)? {
+                print_record(&rt, day)
+            } else {
+                println!(rt; "sold {}", day.sold)
+            }
         }
-        Ok(None) => rt.println("the shop wasn't opened"),
-        Err(refusal) => println!(rt; "the shop was closed: {refusal:?}"),
     }
 }

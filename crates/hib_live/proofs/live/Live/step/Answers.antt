@@ -1,4 +1,4 @@
-use Rattle.std.proofs.Common.{◌≡◌, ◌∷◌, true, Ok, is_ok, refl, sym, ap, subst, ◌∙◌}
+use Rattle.std.proofs.Common.{◌≡◌, ◌∷◌, true, length, Ok, is_ok, refl, sym, ap, subst, ◌∙◌, arith}
 use Rattle.hib_base.specs.declared.entries.Entry.{Entry}
 use Rattle.hib_journal.specs.Kept.{past}
 use Rattle.hib_journal.specs.Sessions.{Journal}
@@ -76,3 +76,6 @@ returns-in-Done-clause-fault g c =
 pub returns-after-tell-clause-fault : goal.returns-after-tell-clause-fault
 returns-after-tell-clause-fault g c =
     subst (λ (v : HeardState). (e : Entry) → past c.step.new.self.journal ≡ e ∷ past v.journal → is_fault e.reply ≡ true → Rose v.engines.store.faults c.step.new.self.engines.store.faults) c.self.view_is c.step.ensures.fault
+
+pub returns-then-self-clause-fault : goal.returns-then-self-clause-fault
+returns-then-self-clause-fault g c e p f = absurd (omega (arith, ap length p))
