@@ -1,7 +1,7 @@
 -- What a session of a shared live factory is answered.
-use Rattle.std.specs.Prelude.{◌≡◌, ◌∷◌, ℕ, Bool, true, false, if◌then◌else◌, List, Option, Some, None}
+use Rattle.std.specs.Prelude.{◌≡◌, ◌==◌, ◌∷◌, ℕ, Bool, true, false, if◌then◌else◌, List, Option, Some, None}
 use Rattle.hib_base.specs.Keys.{same_key}
-use Rattle.hib_journal.specs.Types.{Key, Row, Cell, Act, Reply, Entry, Script}
+use Rattle.hib_journal.specs.Types.{Key, Row, Cell, Commit, Act, Reply, Entry, Script}
 use Rattle.hib_journal.specs.Sessions.{Journal}
 use Rattle.hib_journal.specs.Legal.{IsLegal}
 use Rattle.hib_core.specs.Standing.{Origin}
@@ -78,8 +78,31 @@ pub record IsListed (opened : Script) (from : Origin) (n q : ℕ) (l : List Cell
   pub said : IsSaid opened from n entry
   pub list : list_told q entry ≡ Some l
 
--- a statement was answered by this reply
-pub record IsAnswered (opened : Script) (from : Origin) (n : ℕ) (r : Reply) : Type 0 where
+-- how a transaction ended, by a commit's reply
+abbrev pub outcome_in : Reply → Option Commit
+outcome_in (Reply.Commit c) = Some c
+outcome_in _ = None
+
+-- a commit was answered so
+pub record IsEnded (opened : Script) (from : Origin) (n : ℕ) (c : Commit) : Type 0 where
   pub entry : Entry
   pub said : IsSaid opened from n entry
-  pub reply : entry.reply ≡ r
+  pub outcome : outcome_in entry.reply ≡ Some c
+
+abbrev pub is_new : Reply → Bool
+is_new Reply.New = true
+is_new _ = false
+
+abbrev pub is_set : Reply → Bool
+is_set Reply.Set = true
+is_set _ = false
+
+abbrev pub is_removed : Reply → Bool
+is_removed Reply.Removed = true
+is_removed _ = false
+
+-- a change was answered so
+pub record IsDone (opened : Script) (from : Origin) (n : ℕ) (is : Reply → Bool) : Type 0 where
+  pub entry : Entry
+  pub said : IsSaid opened from n entry
+  pub done : is entry.reply ≡ true

@@ -2,12 +2,12 @@
 //! speaks through. What holds of a live factory at any time holds of the one that is handed back at the end.
 #![tactic(auto)]
 
-mod answers;
+mod answering;
 mod session;
 mod shared;
 mod threads;
 
-pub use answers::{Unanswered, answers};
+pub use answering::{Unanswered, answers};
 pub use hib_live::{Live, Name, Refusal};
 pub use session::Session;
 pub use shared::{Hold, Shared};

@@ -1,12 +1,13 @@
 // A session of a shared live factory.
-ghost use Rattle.hib_live_shared.specs.Answers.{IsSaid, IsFound, IsListed, IsAnswered};
-ghost use Rattle.hib_base.specs.declared.replies.Reply.{Reply};
-ghost use Rattle.std.specs.Prelude.{◌≡◌, true, IfOk, IfSome};
+ghost use Rattle.hib_live_shared.specs.Answers.{IsSaid, IsFound, IsListed, IsEnded, IsDone, is_new, is_set, is_removed, row_told, list_told};
+ghost use Rattle.std.specs.Prelude.{◌≡◌, true, Some, IfOk, IfSome};
 
-use crate::answers::{Unanswered, answers, list_told, row_told};
+use crate::answering::{
+    Unanswered, answers, is_new, is_removed, is_set, list_told, outcome_in, row_told,
+};
 use crate::shared::{Hold, Shared};
 use hib_base::{
-    Cells, Commit, Entry, Key, Listing, Mode, QueryNo, Reply, Row, SessionNo, Sets, Statement,
+    Cells, Commit, Entry, Key, Listing, Mode, QueryNo, Row, SessionNo, Sets, Statement,
 };
 use hib_live::{Live, Name, Refusal, Stepped};
 use hib_outside::{Keeper, Listener};
@@ -75,15 +76,40 @@ fn make_steps<R: Wait, K: Keeper, N: Name, L: Listener>(
 {
     let mut answer = None;
     for _ in rt.forever() {
-        let made = make_step(alloc, live, number)?;
-        if made.answer.is_some() {
-            answer = made.answer;
+        let Progress {
+            over,
+            answer: newer,
+        } = make_step(alloc, live, number)?;
+        if newer.is_some() {
+            answer = newer;
         }
-        if made.over {
+        if over {
             break;
         }
     }
     Ok(Progress { over: true, answer })
+}
+
+/// The row that an entry gives of a key, as the answer of a find.
+fn row_of(alloc: Global, key: &Key, entry: &Entry) -> Result<Option<Row>, Unanswered>
+    ensures { IfOk result (λ o. row_told key.now entry.now ≡ Some o) }
+{
+    match row_told(alloc, *key, entry) {
+        Ok(Some(row)) => Ok(row),
+        Ok(None) => Err(Unanswered::Fault),
+        Err(_) => Err(Unanswered::Refused(Refusal::NoMemory)),
+    }
+}
+
+/// What an entry says that a query gives, as the answer of a list.
+fn list_of(query: QueryNo, entry: &Entry) -> Result<Listing, Unanswered>
+    ensures { IfOk result (λ l. list_told query entry.now ≡ Some l) }
+{
+    match list_told(query, entry) {
+        Ok(Some(list)) => Ok(list),
+        Ok(None) => Err(Unanswered::Fault),
+        Err(_) => Err(Unanswered::Refused(Refusal::NoMemory)),
+    }
 }
 
 impl<'a, R: Wait, K: Keeper, N: Name, L: Listener> Session<'a, R, K, N, L> {
@@ -125,11 +151,14 @@ impl<'a, R: Wait, K: Keeper, N: Name, L: Listener> Session<'a, R, K, N, L> {
     {
         let mut answer = None;
         for _ in self.rt.forever() {
-            let made = self.make_some()?;
-            if made.answer.is_some() {
-                answer = made.answer;
+            let Progress {
+                over,
+                answer: newer,
+            } = self.make_some()?;
+            if newer.is_some() {
+                answer = newer;
             }
-            if made.over {
+            if over {
                 break;
             }
         }
@@ -152,11 +181,8 @@ impl<'a, R: Wait, K: Keeper, N: Name, L: Listener> Session<'a, R, K, N, L> {
         ensures found { IfOk result (IsFound N.script N.from self.old.number key) }
         ensures same { self.new.number ≡ self.old.number }
     {
-        let Some(entry) = self.say(Statement::Find { key })? else {
-            return Err(Unanswered::Fault);
-        };
-        match row_told(key, entry) {
-            Some(row) => Ok(row),
+        match self.say(Statement::Find { key })? {
+            Some(entry) => row_of(self.alloc, &key, &entry),
             None => Err(Unanswered::Fault),
         }
     }
@@ -166,24 +192,9 @@ impl<'a, R: Wait, K: Keeper, N: Name, L: Listener> Session<'a, R, K, N, L> {
         ensures listed { IfOk result (IsListed N.script N.from self.old.number query) }
         ensures same { self.new.number ≡ self.old.number }
     {
-        let Some(entry) = self.say(Statement::List { query })? else {
-            return Err(Unanswered::Fault);
-        };
-        match list_told(query, entry) {
-            Some(list) => Ok(list),
+        match self.say(Statement::List { query })? {
+            Some(entry) => list_of(query, &entry),
             None => Err(Unanswered::Fault),
-        }
-    }
-
-    /// The reply that answers a statement, if one does.
-    fn reply(&mut self, statement: Statement) -> Result<Option<Reply>, Unanswered>
-        ensures answered { IfOk result (λ o. IfSome o
-            (IsAnswered N.script N.from self.old.number)) }
-        ensures same { self.new.number ≡ self.old.number }
-    {
-        match self.say(statement)? {
-            Some(entry) => Ok(Some(entry.reply)),
-            None => Ok(None),
         }
     }
 
@@ -191,12 +202,12 @@ impl<'a, R: Wait, K: Keeper, N: Name, L: Listener> Session<'a, R, K, N, L> {
     /// has written it.
     pub fn persist(&mut self, key: Key, cells: Cells) -> Result<bool, Unanswered>
         ensures done { IfOk result (λ is. is ≡ true
-            → IsAnswered N.script N.from self.old.number Reply.New) }
+            → IsDone N.script N.from self.old.number is_new) }
         ensures same { self.new.number ≡ self.old.number }
     {
-        match self.reply(Statement::Persist { key, cells })? {
-            Some(Reply::New) => Ok(true),
-            _ => Ok(false),
+        match self.say(Statement::Persist { key, cells })? {
+            Some(entry) => Ok(is_new(&entry.reply)),
+            None => Ok(false),
         }
     }
 
@@ -204,12 +215,12 @@ impl<'a, R: Wait, K: Keeper, N: Name, L: Listener> Session<'a, R, K, N, L> {
     /// the row, has removed it, or its entity is never updated.
     pub fn set(&mut self, key: Key, cells: Sets) -> Result<bool, Unanswered>
         ensures done { IfOk result (λ is. is ≡ true
-            → IsAnswered N.script N.from self.old.number Reply.Set) }
+            → IsDone N.script N.from self.old.number is_set) }
         ensures same { self.new.number ≡ self.old.number }
     {
-        match self.reply(Statement::Set { key, cells })? {
-            Some(Reply::Set) => Ok(true),
-            _ => Ok(false),
+        match self.say(Statement::Set { key, cells })? {
+            Some(entry) => Ok(is_set(&entry.reply)),
+            None => Ok(false),
         }
     }
 
@@ -217,12 +228,12 @@ impl<'a, R: Wait, K: Keeper, N: Name, L: Listener> Session<'a, R, K, N, L> {
     /// it, or has removed it.
     pub fn remove(&mut self, key: Key) -> Result<bool, Unanswered>
         ensures done { IfOk result (λ is. is ≡ true
-            → IsAnswered N.script N.from self.old.number Reply.Removed) }
+            → IsDone N.script N.from self.old.number is_removed) }
         ensures same { self.new.number ≡ self.old.number }
     {
-        match self.reply(Statement::Remove { key })? {
-            Some(Reply::Removed) => Ok(true),
-            _ => Ok(false),
+        match self.say(Statement::Remove { key })? {
+            Some(entry) => Ok(is_removed(&entry.reply)),
+            None => Ok(false),
         }
     }
 
@@ -230,7 +241,7 @@ impl<'a, R: Wait, K: Keeper, N: Name, L: Listener> Session<'a, R, K, N, L> {
     pub fn flush(&mut self) -> Result<(), Unanswered>
         ensures same { self.new.number ≡ self.old.number }
     {
-        self.reply(Statement::Flush)?;
+        self.say(Statement::Flush)?;
         Ok(())
     }
 
@@ -238,7 +249,7 @@ impl<'a, R: Wait, K: Keeper, N: Name, L: Listener> Session<'a, R, K, N, L> {
     pub fn clear(&mut self) -> Result<(), Unanswered>
         ensures same { self.new.number ≡ self.old.number }
     {
-        self.reply(Statement::Clear)?;
+        self.say(Statement::Clear)?;
         Ok(())
     }
 
@@ -246,20 +257,22 @@ impl<'a, R: Wait, K: Keeper, N: Name, L: Listener> Session<'a, R, K, N, L> {
     pub fn mode(&mut self, mode: Mode) -> Result<(), Unanswered>
         ensures same { self.new.number ≡ self.old.number }
     {
-        self.reply(Statement::Mode { mode })?;
+        self.say(Statement::Mode { mode })?;
         Ok(())
     }
 
     /// Ends the transaction. `Committed` if its changes are in the store for everyone; else none is, and the answer says
     /// why: a stale one may be tried again from its finds on, after a `clear`.
     pub fn commit(&mut self) -> Result<Commit, Unanswered>
-        ensures ended { IfOk result (λ outcome.
-            IsAnswered N.script N.from self.old.number (Reply.Commit outcome)) }
+        ensures ended { IfOk result (IsEnded N.script N.from self.old.number) }
         ensures same { self.new.number ≡ self.old.number }
     {
-        match self.reply(Statement::Commit)? {
-            Some(Reply::Commit(outcome)) => Ok(outcome),
-            _ => Err(Unanswered::Fault),
+        let Some(entry) = self.say(Statement::Commit)? else {
+            return Err(Unanswered::Fault);
+        };
+        match outcome_in(&entry.reply) {
+            Some(outcome) => Ok(outcome),
+            None => Err(Unanswered::Fault),
         }
     }
 
@@ -267,7 +280,7 @@ impl<'a, R: Wait, K: Keeper, N: Name, L: Listener> Session<'a, R, K, N, L> {
     pub fn rollback(&mut self) -> Result<(), Unanswered>
         ensures same { self.new.number ≡ self.old.number }
     {
-        self.reply(Statement::Rollback)?;
+        self.say(Statement::Rollback)?;
         Ok(())
     }
 }

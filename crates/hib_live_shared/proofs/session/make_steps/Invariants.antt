@@ -1,0 +1,6 @@
+use Rattle.std.proofs.Common.{IfSome}
+use Rattle.hib_live_shared.specs.Answers.{IsSaid}
+use Rattle.hib_live_shared.proofs.session.make_steps.Given as goal
+
+abbrev pub invariant-loop : goal.invariant-loop
+invariant-loop g l = IfSome l.answer (IsSaid g.N.Name.script g.N.Name.from l.fn.number)
