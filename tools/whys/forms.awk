@@ -15,7 +15,7 @@ function learn_forms(  forms, n, i, w) {
   wanted["TYPE"] = "a type is wanted: int, text, bool or ref ENTITY"
   missing["TYPE"] = "the type is missing: int, text, bool or ref ENTITY"
   wanted["VERSIONING"] = "`versioned` or `plain` is wanted"; missing["VERSIONING"] = "`versioned` or `plain` is missing"
-  wanted["CAPACITY"] = "a capacity is wanted, a number"; missing["CAPACITY"] = "the capacity is missing, a number"
+  wanted["CAPACITY"] = "a capacity is wanted, a number"; missing["CAPACITY"] = "the capacity is missing: 1 to 100000, or 0 with the strategy none"
   wanted["ID"] = "an identifier is wanted, a number"; missing["ID"] = "the identifier is missing, a number"
   wanted["COL"] = "a column's name is wanted"; missing["COL"] = "the column is missing"
   wanted["M"] = "a mode is wanted: normal, get, put or ignore"; missing["M"] = "the mode is missing: normal, get, put or ignore"

@@ -66,6 +66,11 @@ fn put_tags(
     out.extend_from_slice(b"}]}")
 }
 
+/// The first tick behind a step. There ends its span, and that of a transaction or a run whose last step it is.
+fn behind(entry: &Entry) -> u64 {
+    entry.tick.0.saturating_add(1)
+}
+
 /// The span of a step.
 fn put_step(
     alloc: Global,
@@ -76,12 +81,11 @@ fn put_step(
     entry: &Entry,
 ) -> Result<(), AllocError> {
     let track = track_of(entry.session);
-    let tick = entry.tick.0;
     put_labelled(alloc, out, b",\n{\"traceID\":\"1\",\"spanID\":\"c", place)?;
     out.extend_from_slice(b"\",\"operationName\":")?;
     put_quoted_act(alloc, out, script, &entry.act)?;
     put_reference(alloc, out, track, begun)?;
-    put_times(alloc, out, tick, tick.saturating_add(1), track)?;
+    put_times(alloc, out, entry.tick.0, behind(entry), track)?;
     put_tags(alloc, out, script, entry)
 }
 
@@ -151,7 +155,7 @@ fn put_entry(
     put_step(alloc, out, script, begun, place, entry)?;
     put_lock(alloc, out, script, kept, begun, place, entry)?;
     let ended = kept.ended(alloc, entry)?;
-    put_transactions(alloc, out, ended.as_slice(), entry.tick.0)
+    put_transactions(alloc, out, ended.as_slice(), behind(entry))
 }
 
 /// The span of the run.
@@ -209,11 +213,11 @@ fn put_tracks(alloc: Global, out: &mut Vec<u8>, script: &Script) -> Result<(), A
 }
 
 /// A journal in the JSON that Jaeger opens. Each session is a service, and the orders of the schedule are one more; a
-/// transaction is a span, and within it each of its steps, with its reply, and each lock that was given back. A
-/// transaction that isn't over at the end of the journal ends there. Fails for want of memory alone.
+/// transaction is a span, and within it each of its steps, its end too, with its reply, and each lock that was given
+/// back. A transaction that isn't over at the end of the journal ends there. Fails for want of memory alone.
 pub fn jaeger(alloc: Global, script: &Script, journal: &Journal) -> Result<Bytes, AllocError> {
     let to = match journal.last() {
-        Some(entry) => entry.tick.0,
+        Some(entry) => behind(entry),
         None => 0,
     };
     let mut out = Vec::new(alloc);
