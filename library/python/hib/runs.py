@@ -17,7 +17,7 @@ Journal = Union[Text, Iterable[Entry]]
 
 _SECTION = re.compile(rb"^[ \t]*(collections|bulk|nodes)[ \t]*$", re.MULTILINE)
 _COMMANDS = {b"collections": "collect", b"bulk": "bulk", b"nodes": "nodes"}
-_VERDICT = re.compile(r"(?:hib: )?illegal (\d+) (\w+)$")
+_VERDICT = re.compile(r"hib: illegal (\d+) (\w+)$")
 
 
 def _objects(lines: str) -> list[dict[str, Any]]:
@@ -113,7 +113,7 @@ def make(seed: int) -> str:
 def audit(script: Text, journal: Journal) -> Verdict:
     """Whether a journal is legal for a script."""
     answer = call("audit", input=_with_journal(script, journal))
-    bad = _VERDICT.match((answer.text + answer.line).decode().strip())
+    bad = _VERDICT.match(answer.line.decode().strip())
     if bad:
         return Verdict(False, int(bad[1]), bad[2])
     return Verdict(True, int(text_of(answer).split()[1]), "")
