@@ -1,8 +1,11 @@
 // A call of the program from memory to memory.
-ghost use Rattle.std.specs.Prelude.{IfOk};
+ghost use Rattle.std.specs.Prelude.{◌≡◌, [], IfOk, OnOk, option_and_then};
+ghost use Rattle.hib_call.specs.Exits.{exit_number};
 ghost use Rattle.hib_top.specs.Words.{asked_in};
 ghost use Rattle.hib_embed.specs.Calls.{IsCall};
+ghost use Rattle.hib_embed.specs.Lines.{IsLineOf};
 ghost use Rattle.hib_embed.specs.Rooms.{IsAnswered, room};
+ghost use Rattle.hib_embed.specs.Unserved.{unserved_of};
 ghost use Rattle.hib_embed.specs.Words.{asked_in_lines};
 
 use crate::answer::{Answer, line_of};
@@ -18,7 +21,12 @@ use hib_top::{AnyRun, play_words};
 use std::alloc::{AllocError, Global};
 
 /// What is lent to a call: a keeper in memory without rows, and no listener.
-pub fn nothing_kept(alloc: Global) -> Lent<MemKeeper, Recorder> {
+pub fn nothing_kept(alloc: Global) -> Lent<MemKeeper, Recorder>
+    ensures rows { result.keeper.rows.items ≡ [] }
+    ensures asked { result.keeper.asked ≡ 0 }
+    ensures calls { result.keeper.failing.calls ≡ 0 }
+    ensures listeners { result.listeners.items ≡ [] }
+{
     Lent {
         keeper: MemKeeper::new(alloc, Seq::new(alloc)),
         listeners: Vec::new(alloc),
@@ -26,7 +34,9 @@ pub fn nothing_kept(alloc: Global) -> Lent<MemKeeper, Recorder> {
 }
 
 /// What the words ask of the program that isn't done here.
-fn unserved_in(alloc: Global, words: &[String]) -> Result<Option<Unserved>, AllocError> {
+fn unserved_in(alloc: Global, words: &[String]) -> Result<Option<Unserved>, AllocError>
+    ensures { IfOk result (λ o. o ≡ option_and_then unserved_of (asked_in words.now)) }
+{
     match hib_words::read(alloc, words)? {
         Some(command) => Ok(unserved_of(&command)),
         None => Ok(None),
@@ -54,7 +64,12 @@ fn answer_of(
     alloc: Global,
     called: &Called<AnyRun, MemKeeper, Recorder>,
     page: Page,
-) -> Result<Answer, AllocError> {
+) -> Result<Answer, AllocError>
+    ensures whole { OnOk result (page.failures ≡ 0) }
+    ensures text { IfOk result (λ a. a.text ≡ page.bytes.items) }
+    ensures status { IfOk result (λ a. a.status ≡ exit_number called.now.status) }
+    ensures line { IfOk result (λ a. IsLineOf called.now.status a.line) }
+{
     if page.failures() > 0 {
         return Err(AllocError);
     }

@@ -1,9 +1,10 @@
 // A call of the tools from memory to memory.
-ghost use Rattle.std.specs.Prelude.{◌≡◌, IfOk, map, string_bytes};
+ghost use Rattle.std.specs.Prelude.{◌≡◌, IfOk, OnOk, map, option_and_then, string_bytes};
 ghost use Rattle.hib_words.specs.Tools.{tool_command};
 ghost use Rattle.hib_embed.specs.Calls.{IsToolCall, tool_number};
 ghost use Rattle.hib_embed.specs.Lines.{IsSaidLine, said_text};
 ghost use Rattle.hib_embed.specs.Rooms.{IsAnswered, room};
+ghost use Rattle.hib_embed.specs.Unserved.{unserved_tool};
 ghost use Rattle.hib_embed.specs.Words.{tool_in_lines};
 
 use crate::answer::{Answer, line_of};
@@ -77,7 +78,10 @@ fn tool_line(alloc: Global, status: &Status, said: Said) -> Result<Bytes, AllocE
 }
 
 /// What the words ask of the tools that isn't done here.
-fn unserved_in(alloc: Global, words: &[String]) -> Result<Option<Unserved>, AllocError> {
+fn unserved_in(alloc: Global, words: &[String]) -> Result<Option<Unserved>, AllocError>
+    ensures { IfOk result (λ o. o
+        ≡ option_and_then unserved_tool (tool_command (map string_bytes words.now))) }
+{
     match read_tool(alloc, words)? {
         Some(tool) => Ok(unserved_tool(&tool)),
         None => Ok(None),
@@ -106,7 +110,12 @@ fn answer_of(
     alloc: Global,
     ended: &Ended<MemKeeper, Recorder>,
     page: Page,
-) -> Result<Answer, AllocError> {
+) -> Result<Answer, AllocError>
+    ensures whole { OnOk result (page.failures ≡ 0) }
+    ensures text { IfOk result (λ a. a.text ≡ page.bytes.items) }
+    ensures status { IfOk result (λ a. a.status ≡ tool_number ended.now.status ended.now.said) }
+    ensures line { IfOk result (λ a. IsSaidLine ended.now.status ended.now.said a.line) }
+{
     if page.failures() > 0 {
         return Err(AllocError);
     }
