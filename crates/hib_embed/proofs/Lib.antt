@@ -1,2 +1,3 @@
+mod Comes
 mod Served
 mod Worded

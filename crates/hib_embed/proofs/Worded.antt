@@ -7,7 +7,8 @@ use Rattle.hib_embed.specs.Words.{words_in}
 
 is_utf8-false : (text : List ℕ) → (IsUtf8 text → ⊥) → is_utf8 text ≡ false
 is_utf8-false text none =
-    elim (is_utf8 text) as (λ b. is_utf8 text ≡ b → b ≡ false) [ true ↦ λ e. absurd (none (IsUtf8-from_is_utf8 _ e)) | false ↦ λ e. refl ] refl
+    elim (is_utf8 text) as (λ b. is_utf8 text ≡ b → b ≡ false)
+    [ true ↦ λ e. absurd (none (IsUtf8-from_is_utf8 _ e)) | false ↦ λ e. refl ] refl
 
 pub words_in-utf8 : (text : List ℕ) → IsUtf8 text → lines text ≡ words_in text
 unfolding words_in

@@ -1,6 +1,6 @@
--- What a call from memory to memory promises: it ends as a call of the program, or of its tools, over a source that has the input, a sink
--- that takes all, and a keeper without rows; and its text is all that was written. A source and a sink that tell what they have make the
--- bytes that were read and written a part of that promise.
+-- What a call from memory to memory promises: it ends as a call of the program, or of its tools, over a source that has
+-- the input, a sink that takes all, and a keeper without rows; and its text is all that was written. A source and a
+-- sink that tell what they have make the bytes that were read and written a part of that promise.
 use Rattle.std.specs.Prelude.{◌≡◌, ℕ, List, Option, Some, None, option_and_then}
 use Rattle.hib_words.specs.Commands.{Asked}
 use Rattle.hib_words.specs.declared.tools.Tool.{Tool}

@@ -15,7 +15,8 @@ abbrev pub said_text : Said → List ℕ
 said_text Said.Nothing = []
 said_text Said.Found = []
 said_text Said.Missing = codes "hib: there is no such finding\n"
-said_text (Said.Foreign place) = codes "hib: no schedule repeats entry " ++ decimal (min (place + 1) (2 ^ 64 - 1)) ++ codes ", an eviction or a restart\n"
+said_text (Said.Foreign place) =
+    codes "hib: no schedule repeats entry " ++ decimal (min (place + 1) (2 ^ 64 - 1)) ++ codes ", an eviction or a restart\n"
 said_text Said.Long = codes "hib: the script with the schedule has too many lines, or too long ones\n"
 
 -- it stands in the place of the other line

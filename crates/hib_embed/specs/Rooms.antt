@@ -1,5 +1,6 @@
 -- Rooms of a caller, into which the answer of a call is put.
-use Rattle.std.specs.Prelude.{◌≡◌, ◌⊎◌, ℕ, ◌++◌, Bool, List, [], if◌then◌else◌, length, take, drop, nat_le}
+use Rattle.std.specs.Prelude.{◌≡◌, ◌⊎◌, ℕ, ◌++◌, Bool, List, []}
+use Rattle.std.specs.Prelude.{if◌then◌else◌, length, take, drop, nat_le}
 use Rattle.hib_call.specs.Exits.{exit_number}
 use Rattle.hib_call.specs.StatusLine.{status_text}
 use Rattle.hib_call.specs.declared.status.Status.{Status}
@@ -25,15 +26,16 @@ fits answer out = nat_le (length answer.text) (length out.before)
 -- a text that doesn't fit is told as a sink that fails is
 pub record IsTold (answer : Answer) (out line : Room) (number : ℕ) : Type 0 where
   pub text : IsPut answer.text out
-  pub line : IsPut (if fits answer out then answer.line else status_text Status.WriteFault) line
-  pub number : number ≡ (if fits answer out then answer.status else exit_number Status.WriteFault)
+  pub said : IsPut (if fits answer out then answer.line else status_text Status.WriteFault) line
+  pub status : number ≡ (if fits answer out then answer.status else exit_number Status.WriteFault)
 
 -- memory ran out
 pub record IsShort (out line : Room) (number : ℕ) : Type 0 where
   pub text : IsPut [] out
-  pub line : IsPut (status_text Status.NoMemory) line
-  pub number : number ≡ exit_number Status.NoMemory
+  pub said : IsPut (status_text Status.NoMemory) line
+  pub status : number ≡ exit_number Status.NoMemory
 
 -- an answer of which this is known was told; or memory ran out
 abbrev pub IsAnswered : (Answer → Type 0) → Room → Room → ℕ → Type 0
-IsAnswered IsAnswer out line number = ((answer : Answer) × IsAnswer answer × IsTold answer out line number) ⊎ IsShort out line number
+IsAnswered IsAnswer out line number =
+    ((answer : Answer) × IsAnswer answer × IsTold answer out line number) ⊎ IsShort out line number

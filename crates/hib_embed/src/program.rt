@@ -34,6 +34,7 @@ pub fn nothing_kept(alloc: Global) -> Lent<MemKeeper, Recorder>
 }
 
 /// What the words ask of the program that isn't done here.
+#[tactic(auto, using(crate::proofs::Served::asked_in_words))]
 fn unserved_in(alloc: Global, words: &[String]) -> Result<Option<Unserved>, AllocError>
     ensures { IfOk result (λ o. o ≡ option_and_then unserved_of (asked_in words.now)) }
 {
