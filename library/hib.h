@@ -10,8 +10,8 @@
  * input don't overlap. A null pointer stands for no bytes if the number is 0; with another number it is an error of the caller's that
  * isn't noticed. `length` and `line_length` are never null. Nothing is kept of a pointer after the call.
  *
- * Memory. Beside its rooms a call takes what the run needs: by what was measured some 20 MB for a script of 10,000 entries, and at most
- * some hundred times the bytes of the input. Where malloc answers null, the status is 8 and all that was taken is given back.
+ * Memory. Beside its rooms a call takes what the run needs: 12 MB were measured for a script of 180 kB whose run has 12,394 entries, and
+ * it grows with both. Where malloc answers null, the status is 8 and all that was taken is given back.
  *
  * What is proved of a call stands in crates/hib_c/src/lib.rt and crates/hib_embed/specs; that a caller keeps to this page isn't, and
  * nothing compares this page with the code but the tests. */
@@ -44,7 +44,7 @@ enum hib_status {
  *   line         room for what it says on standard error, with its line end; 256 bytes are enough. None is said if all was done.
  *   line_length  how long that is
  *
- * Answers one of hib_status. 4, 7 and 9 of the program don't come. A length of 0 is right for each room: so a call with none tells by
+ * Answers one of hib_status. 4 can't come; 7 and 9 are of threads and files, which no call has. A length of 0 is right for each room: so a call with none tells by
  * *length what room the text needs. */
 uint8_t hib_call(const uint8_t *words, size_t words_length, const uint8_t *input, size_t input_length, uint8_t *out, size_t out_room,
                  size_t *length, uint8_t *line, size_t line_room, size_t *line_length);

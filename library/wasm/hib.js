@@ -32,7 +32,8 @@ async function openHib(bytes) {
     const told = new DataView(memory.buffer, Number(lengths), 2 * WORD_BYTES);
     const length = Number(told.getBigUint64(0, true)), lineLength = Number(told.getBigUint64(WORD_BYTES, true));
     const taken = (at, count) => seen().slice(Number(at), Number(at) + count);
-    return { status, length, text: taken(out, Math.min(length, room)), line: taken(line[0], Math.min(lineLength, LINE_ROOM)), memory: memory.buffer.byteLength };
+    const text = taken(out, Math.min(length, room)), said = taken(line[0], Math.min(lineLength, LINE_ROOM));
+    return { status, length, text, line: said, memory: memory.buffer.byteLength };
   }
 
   return (name, words, input, room) => {

@@ -27,4 +27,7 @@ document.addEventListener('keydown', event => {
 });
 
 setBusy(false);
-scriptIn(location.hash).then(script => script === null ? openScript(element('examples').value, exampleOf(element('examples').value)) : openScript('shared', script));
+scriptIn(location.hash).then(script => {
+  const { value: first } = element('examples');
+  return script === null ? openScript(first, exampleOf(first)) : openScript('shared', script);
+});

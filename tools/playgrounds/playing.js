@@ -30,7 +30,8 @@ async function busy(what, work) {
 async function runOf(script) {
   const section = sectionOf(script), played = await Calls.program([SECTIONS[section] || 'play'], script);
   if (played.status !== 0) return { refused: played.line.trim() || `status ${played.status}` };
-  const entries = Number(/^journal (\d+)/.exec(played.text)[1]), run = { script, report: played.text, states: '', journal: '', entries, ms: played.ms };
+  const entries = Number(/^journal (\d+)/.exec(played.text)[1]);
+  const run = { script, report: played.text, states: '', journal: '', entries, ms: played.ms };
   if (section !== '') return run;
   const journal = await Calls.program(['play', '--journal'], script);
   const told = await Calls.tools(['states'], `${script}journal\n${journal.text}`);
@@ -69,8 +70,10 @@ async function play() {
   let refused = '';
   if (other !== '') {
     const beside = await runOf(withStrategy(script, other));
-    if (beside.refused) refused = `; with ${other} it is refused: ${beside.refused}`; else runs.push({ ...beside, name: `${state.name}-${other}.hib` });
+    if (beside.refused) refused = `; with ${other} it is refused: ${beside.refused}`;
+    else runs.push({ ...beside, name: `${state.name}-${other}.hib` });
   }
   draw(runs);
-  say(`${runs.map(({ entries }) => `${entries} entries`).join(' and ')}, ${runs.reduce((sum, { ms }) => sum + ms, 0).toFixed(1)} ms${refused}`, refused !== '');
+  const entries = runs.map(one => `${one.entries} entries`).join(' and '), ms = runs.reduce((sum, one) => sum + one.ms, 0);
+  say(`${entries}, ${ms.toFixed(1)} ms${refused}`, refused !== '');
 }

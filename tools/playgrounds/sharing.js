@@ -1,7 +1,8 @@
 'use strict';
 // Links that hold the script behind their #, and files to be kept. Nothing is sent anywhere.
 
-const asLink = bytes => btoa(Array.from(bytes, byte => String.fromCharCode(byte)).join('')).replace(/\+/g, '-').replace(/\//g, '_').replace(/=+$/, '');
+const LETTERS = { '+': '-', '/': '_', '=': '' };
+const asLink = bytes => btoa(Array.from(bytes, byte => String.fromCharCode(byte)).join('')).replace(/[+/=]/g, mark => LETTERS[mark]);
 const ofLink = text => bytesOf(text.replace(/-/g, '+').replace(/_/g, '/'));
 
 // Bytes through a stream that packs or unpacks them.
@@ -46,6 +47,9 @@ function keep(name, type, text) {
 
 const KEEPS = {
   script: () => keep(`${state.name}.hib`, 'text/plain', Editor.text()),
-  journal: () => state.journal ? keep(`${state.name}.jsonl`, 'application/x-ndjson', state.journal) : say('a script with a section has no journal of its own', true),
+  journal: () => {
+    if (state.journal) keep(`${state.name}.jsonl`, 'application/x-ndjson', state.journal);
+    else say('a script with a section has no journal of its own', true);
+  },
   page: () => keep(`${state.name}.html`, 'text/html', state.drawn),
 };
