@@ -15,6 +15,6 @@ from .runs import Run, Verdict, audit, flat, make, play, report, schedule, spans
 from .searches import Finding, Orders, orders
 
 __all__ = [
-    "Answer", "Finding", "HibError", "NotThere", "Orders", "OutOfMemory", "Refused", "Run", "TooLong", "Usage", "Verdict",
-    "audit", "call", "flat", "make", "orders", "play", "report", "schedule", "spans", "states", "tool",
+    "Answer", "Finding", "HibError", "NotThere", "Orders", "OutOfMemory", "Refused", "Run", "TooLong", "Usage",
+    "Verdict", "audit", "call", "flat", "make", "orders", "play", "report", "schedule", "spans", "states", "tool",
 ]  # fmt: skip

@@ -70,6 +70,5 @@ def orders(script: Text, switches: int = 2, *, kills: int = 0, at_most: int | No
         Finding(int(number), name, int(count), int(least) if least else None)
         for number, name, count, least in _FINDING.findall(text)
     )
-    return Orders(
-        as_bytes(script).decode(), text, int(first[1]), first[-1] == "all", tuple(one for one in found if one.count), tuple(words)
-    )
+    there = tuple(one for one in found if one.count)
+    return Orders(as_bytes(script).decode(), text, int(first[1]), first[-1] == "all", there, tuple(words))
