@@ -1,0 +1,3 @@
+mod Comes
+mod Served
+mod Worded

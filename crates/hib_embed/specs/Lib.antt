@@ -1,0 +1,6 @@
+pub mod Words
+pub mod Lines
+pub mod Unserved
+pub mod Start
+pub mod Calls
+pub mod Rooms
