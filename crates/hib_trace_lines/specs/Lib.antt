@@ -1,3 +1,5 @@
 pub mod Events
+pub mod Rows
 pub mod Words
 pub mod Members
+pub mod Faults

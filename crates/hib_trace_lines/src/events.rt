@@ -91,6 +91,7 @@ impl Model for Event {
     ghost use Rattle.std.specs.Prelude.{map, string_bytes};
     ghost use Rattle.std.specs.Option.{option_map};
     ghost use Rattle.hib_trace_lines.specs.Events.{EventText};
+    ghost use Rattle.hib_trace_lines.specs.Rows.{row_text};
 
     ghost Value = { EventText };
 
@@ -103,7 +104,7 @@ impl Model for Event {
       version = e.version;
       base = option_map string_bytes e.base;
       outcome = e.outcome;
-      writes = map (λ w. record { key = string_bytes w.key; version = w.version }) e.writes.items;
+      writes = map row_text e.writes.items;
       begin = e.begin;
       end = e.end;
     } };

@@ -2,10 +2,14 @@
 //! returned. A text is read as one event for each line, or its first bad line is refused, with the reason.
 #![tactic(auto)]
 
+mod checks;
 mod events;
 mod faults;
+mod members;
 mod words;
 
+pub use checks::fault_of;
 pub use events::{Event, Operation, Outcome, WrittenRow};
 pub use faults::{Fault, Member, RefusedLine, TraceError};
+pub use members::{event_of, operation_at, outcome_at, rows_at, text_at, whole_at};
 pub use words::{operation_of, outcome_of};
