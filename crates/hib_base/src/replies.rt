@@ -303,7 +303,8 @@ impl Drop for Reply {
 impl Reply {
     /// The row that a find or a load is answered, if there is one; none of any other reply.
     pub fn into_row(self) -> Option<Row>
-        ensures { (row : Option Row) → self ≡ Reply.Row row → result ≡ row }
+        ensures row { (row : Option Row) → self ≡ Reply.Row row → result ≡ row }
+        ensures other { ((row : Option Row) → self ≡ Reply.Row row → ⊥) → result ≡ None }
     {
         match self {
             Reply::Row(row) => row,
