@@ -3,3 +3,4 @@ pub mod Rows
 pub mod Words
 pub mod Members
 pub mod Faults
+pub mod Lines

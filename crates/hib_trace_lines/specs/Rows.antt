@@ -1,5 +1,5 @@
 -- The rows that a commit says it made, with their keys as bytes.
-use Rattle.std.specs.Prelude.{List, map, string_bytes}
+use Rattle.std.specs.Prelude.{string_bytes}
 use Rattle.hib_trace_lines.specs.Events.{RowText}
 use Rattle.hib_trace_lines.specs.declared.events.WrittenRow.{WrittenRow}
 

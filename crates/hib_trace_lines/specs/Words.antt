@@ -3,6 +3,7 @@ use Rattle.std.specs.Prelude.{ℕ, List, [], ◌∷◌, codes, Option, Some, Non
 use Rattle.std.specs.Option.{option_or}
 use Rattle.hib_trace_lines.specs.declared.events.Operation.{Operation}
 use Rattle.hib_trace_lines.specs.declared.events.Outcome.{Outcome}
+use Rattle.hib_trace_lines.specs.declared.faults.Member.{Member}
 
 abbrev pub word_of : {A : Type 0} → List (List ℕ × A) → List ℕ → Option A
 word_of [] w = None
@@ -30,3 +31,11 @@ abbrev pub outcomes : List (List ℕ × Outcome)
 outcomes =
     (codes "committed", Outcome.Committed) ∷ (codes "unknown", Outcome.Unknown) ∷ (codes "stored", Outcome.Stored) ∷
     (codes "refused", Outcome.Refused) ∷ (codes "done", Outcome.Done) ∷ []
+
+-- the names of the members
+abbrev pub members : List (List ℕ × Member)
+members =
+    (codes "session", Member.Session) ∷ (codes "tx", Member.Transaction) ∷ (codes "op", Member.Operation) ∷
+    (codes "key", Member.Key) ∷ (codes "value", Member.Value) ∷ (codes "version", Member.Version) ∷ (codes "base", Member.Base) ∷
+    (codes "outcome", Member.Outcome) ∷ (codes "tables", Member.Tables) ∷ (codes "writes", Member.Writes) ∷
+    (codes "begin", Member.Begin) ∷ (codes "end", Member.End) ∷ []

@@ -4,14 +4,17 @@ ghost use Rattle.hib_trace_lines.specs.Faults.{needs_key, needs_transaction};
 ghost use Rattle.hib_trace_lines.specs.Members.{operation_at, text_at, whole_at};
 ghost use Rattle.hib_trace_lines.specs.Words.{operation_of, outcomes, word_of};
 ghost use Rattle.hib_trace_lines.specs.declared.faults.Member.{Member};
+ghost use Rattle.serde_json.specs.Find.{as_object};
 ghost use Rattle.serde_json.specs.View.{view};
-ghost use Rattle.std.specs.Prelude.{◌≡◌, ◌&&◌, IfOk, is_some, not, option_map};
+ghost use Rattle.std.specs.BTreeMap.{keys};
+ghost use Rattle.std.specs.List.{list_any};
+ghost use Rattle.std.specs.Prelude.{◌≡◌, ◌&&◌, IfOk, is_some, not, option_map, string_bytes};
 
 use crate::events::Operation;
 use crate::faults::{Fault, Member};
 use crate::members::{operation_at, rows_at, text_at, whole_at};
-use crate::words::{operation_of, outcome_of};
-use serde_json::Value;
+use crate::words::{member_of, operation_of, outcome_of};
+use serde_json::{Map, Value};
 use std::alloc::{AllocError, Global};
 
 fn first_of(faults: &[Option<Fault>]) -> Option<Fault>
@@ -64,7 +67,7 @@ fn whole_fault(value: &Value, member: Member) -> Option<Fault>
 
 // A member that isn't of its form.
 fn form_fault(value: &Value) -> Option<Fault>
-    ensures { result ≡ wrong.form_fault (view value.now) }
+    ensures { result ≡ wrong.first_of (wrong.form_faults (view value.now)) }
 {
     first_of(&[
         text_fault(value, Member::Session),
@@ -100,7 +103,7 @@ fn has_strange_outcome(value: &Value) -> bool
 
 // A word that isn't known, and rows that are none.
 fn word_fault(alloc: Global, value: &Value) -> Result<Option<Fault>, AllocError>
-    ensures { IfOk result (λ o. o ≡ wrong.word_fault (view value.now)) }
+    ensures { IfOk result (λ o. o ≡ wrong.first_of (wrong.word_faults (view value.now))) }
 {
     let strange_operation = has_strange_operation(value);
     let strange_outcome = has_strange_outcome(value);
@@ -133,6 +136,23 @@ fn needs_transaction(operation: Option<Operation>) -> bool
     }
 }
 
+fn any_unknown(map: &Map<String, Value>) -> bool
+    ensures { result ≡ list_any (λ s. wrong.is_unknown (string_bytes s)) (keys map.now) }
+{
+    map.keys().any(|name| member_of(name.as_str()).is_none())
+}
+
+// Whether an object has a member that no event has.
+#[tactic(auto, using(crate::proofs::Unknown::unknown_names))]
+fn has_unknown(value: &Value) -> bool
+    ensures { result ≡ wrong.has_unknown (as_object (view value.now)) }
+{
+    match value.as_object() {
+        None => false,
+        Some(map) => any_unknown(map),
+    }
+}
+
 fn lacks_transaction(value: &Value) -> bool
     ensures { result ≡ (needs_transaction (operation_at (view value.now))
         && not (is_some (text_at Member.Transaction (view value.now)))) }
@@ -154,7 +174,7 @@ fn lacks_whole(value: &Value, member: Member) -> bool
 
 // A member that the call needs and that isn't there.
 fn missing_fault(value: &Value) -> Option<Fault>
-    ensures { result ≡ wrong.missing_fault (view value.now) }
+    ensures { result ≡ wrong.first_of (wrong.missing_faults (view value.now)) }
 {
     let has_operation = operation_at(value).is_some();
     first_of(&[
@@ -189,6 +209,7 @@ pub fn fault_of(alloc: Global, value: &Value) -> Result<Option<Fault>, AllocErro
     let turned = is_lower(whole_at(value, Member::End), whole_at(value, Member::Begin));
     Ok(first_of(&[
         fault_if(!value.is_object(), Fault::NotAnObject),
+        fault_if(has_unknown(value), Fault::UnknownMember),
         form_fault(value),
         words,
         missing_fault(value),

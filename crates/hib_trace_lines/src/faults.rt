@@ -83,6 +83,9 @@ pub enum TraceError {
     /// There is no memory left.
     #[error("no memory")]
     NoMemory,
+    /// The text has more than 64 MiB.
+    #[error("too long")]
+    TooLong,
     /// A line is no event.
     #[error("line {line} is no event", line = .0.line)]
     Refused(RefusedLine),

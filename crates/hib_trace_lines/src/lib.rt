@@ -5,11 +5,10 @@
 mod checks;
 mod events;
 mod faults;
+mod lines;
 mod members;
 mod words;
 
-pub use checks::fault_of;
 pub use events::{Event, Operation, Outcome, WrittenRow};
 pub use faults::{Fault, Member, RefusedLine, TraceError};
-pub use members::{event_of, operation_at, outcome_at, rows_at, text_at, whole_at};
-pub use words::{operation_of, outcome_of};
+pub use lines::read_trace;

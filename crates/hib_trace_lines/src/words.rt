@@ -3,6 +3,7 @@ ghost use Rattle.hib_trace_lines.specs.Words as words;
 ghost use Rattle.std.specs.Prelude.{◌≡◌, bytes_eq};
 
 use crate::events::{Operation, Outcome};
+use crate::faults::Member;
 
 fn is(word: &str, other: &str) -> bool
     ensures { result ≡ bytes_eq word.now other.now }
@@ -87,6 +88,39 @@ pub fn outcome_of(word: &str) -> Option<Outcome>
         Some(Outcome::Refused)
     } else if is(word, "done") {
         Some(Outcome::Done)
+    } else {
+        None
+    }
+}
+
+/// The member that has a name.
+pub fn member_of(name: &str) -> Option<Member>
+    ensures { result ≡ words.word_of words.members name.now }
+{
+    if is(name, "session") {
+        Some(Member::Session)
+    } else if is(name, "tx") {
+        Some(Member::Transaction)
+    } else if is(name, "op") {
+        Some(Member::Operation)
+    } else if is(name, "key") {
+        Some(Member::Key)
+    } else if is(name, "value") {
+        Some(Member::Value)
+    } else if is(name, "version") {
+        Some(Member::Version)
+    } else if is(name, "base") {
+        Some(Member::Base)
+    } else if is(name, "outcome") {
+        Some(Member::Outcome)
+    } else if is(name, "tables") {
+        Some(Member::Tables)
+    } else if is(name, "writes") {
+        Some(Member::Writes)
+    } else if is(name, "begin") {
+        Some(Member::Begin)
+    } else if is(name, "end") {
+        Some(Member::End)
     } else {
         None
     }
