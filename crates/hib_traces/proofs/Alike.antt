@@ -31,7 +31,7 @@ same_test p q f [] = refl
 same_test p q f (c ∷ cs) = ap (λ b. b || list_any p cs) (f c) ∙ ap (λ b. q c || b) (same_test p q f cs)
 
 module _ (cs ds : List Commit) (m : IsPermutation cs ds) (a : Answer) where
-  old_alike : (c : Commit) (t : ℕ) → is_old cs c t ≡ is_old ds c t
+  pub old_alike : (c : Commit) (t : ℕ) → is_old cs c t ≡ is_old ds c t
   old_alike c t = list_any-IsPermutation (λ d. is_after c d && ended_before d.end t) cs ds m
 
   new_alike : (c : Commit) (t : ℕ) → is_new cs c t ≡ is_new ds c t

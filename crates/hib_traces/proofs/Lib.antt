@@ -2,4 +2,4 @@ mod Steps
 mod Orders
 mod Olds
 mod Joined
-mod Alike
+pub mod Alike

@@ -1,9 +1,9 @@
 -- What a judge says of an answer.
-use Rattle.std.specs.Prelude.{◌≡◌, ◌<◌, ◌+◌, ◌&&◌, ℕ, Bool, true, false, not, List, nat_eq, nat_lt, if◌then◌else◌}
+use Rattle.std.specs.Prelude.{◌≡◌, ◌<◌, ◌+◌, ◌&&◌, ℕ, Bool, true, false, not, Option, None, Some, List, nat_eq, nat_lt, if◌then◌else◌}
 use Rattle.std.specs.List.{list_any}
 use Rattle.hib_trace_law.specs.declared.commits.Commit.{Commit}
 use Rattle.hib_trace_law.specs.declared.commits.Answer.{Answer}
-use Rattle.hib_trace_law.specs.Certain.{is_old, is_new}
+use Rattle.hib_trace_law.specs.Certain.{ended_before, is_lower, is_old, is_new}
 use Rattle.hib_traces.specs.declared.kinds.Verdict.{Verdict}
 use Rattle.hib_traces.specs.declared.kinds.Verdict.TheVariants.{Unknown, Possible, Old, New}
 
@@ -32,6 +32,11 @@ IsVerdict cs a ps Unknown = list_any (makes_row a) ps ≡ false
 IsVerdict cs a ps Possible = may_stand cs a a.since ps ≡ true
 IsVerdict cs a ps (Old gone_by) = IsOld cs a gone_by ps
 IsVerdict cs a ps New = IsNew cs a ps
+
+-- the versions and the clock say opposite things of a commit of this version that began then: one of a higher version had ended before
+abbrev pub is_contradicted : List Commit → Option ℕ → ℕ → Bool
+is_contradicted cs None t = false
+is_contradicted cs (Some v) t = list_any (λ d. is_lower (Some v) d.version && ended_before d.end t) cs
 
 -- the verdict of two lists of places together
 abbrev pub joined : Verdict → Verdict → Verdict

@@ -12,4 +12,4 @@ pub use kinds::Verdict;
 pub use laws::verdicts_are_certain;
 pub use marks::Mark;
 pub use order::{Order, order_of};
-pub use verdicts::{judge, verdict};
+pub use verdicts::{contradicts, is_too_old, judge, verdict};

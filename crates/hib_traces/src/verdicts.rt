@@ -1,7 +1,7 @@
 //! What is said of an answer.
 ghost use Rattle.hib_trace_law.specs.Certain.{ended_before, is_new, is_old};
 ghost use Rattle.hib_traces.specs.Stands.{Stands, row_of};
-ghost use Rattle.hib_traces.specs.Verdicts.{IsVerdict, joined};
+ghost use Rattle.hib_traces.specs.Verdicts.{IsVerdict, is_contradicted, joined};
 ghost use Rattle.std.specs.List.Sorted.{IsNonDecreasingBy};
 ghost use Rattle.std.specs.List.{AllZip, slice_index_or};
 ghost use Rattle.std.specs.Prelude.{◌≡◌, ◌<◌, ◌≤◌, ℕ, [], ◌∷◌, IfOk, length};
@@ -36,6 +36,26 @@ fn is_less(number: Option<u64>, limit: u64) -> bool
     match number {
         None => false,
         Some(one) => one < limit,
+    }
+}
+
+/// Whether the row of a commit was certainly replaced before an instant. The commit needn't be one of the key's.
+pub fn is_too_old(order: &Order, commit: &Commit, instant: u64) -> bool
+    requires { Stands order.now }
+    ensures { result ≡ is_old order.now.commits.items commit.now instant }
+{
+    is_less(gone_by(order, commit), instant)
+}
+
+/// Whether a commit of a higher version had ended before a commit of this version began: then the versions don't say
+/// in which order the commits were made, or the clock is wrong by more than the trace's calls were widened.
+pub fn contradicts(order: &Order, version: Option<u64>, begin: u64) -> bool
+    requires { Stands order.now }
+    ensures { result ≡ is_contradicted order.now.commits.items version begin }
+{
+    match version {
+        None => false,
+        Some(number) => is_less(least_beyond(&order.versions, number), begin),
     }
 }
 
