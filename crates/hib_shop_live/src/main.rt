@@ -14,9 +14,9 @@ ghost use Rattle.hib_listeners.specs.Told.{tells};
 use clerks::Clerks;
 use hib_base::{Script, Seq};
 use hib_journal::Journal;
+use hib_listeners::Recorder;
 use hib_live_record::record_run;
 use hib_live_shared::{Hold, Live, Name, Shared, work_together};
-use hib_listeners::Recorder;
 use hib_outside::{Keeper, Listener, MemKeeper};
 use std::alloc::{AllocError, Global};
 use std::marker::Brand;
@@ -46,12 +46,13 @@ struct Day {
 }
 
 /// The clerks sell in the live factory of this name. None if it wasn't opened.
-fn sell_in<
-    R: Threads + Wait + Sync,
-    N: Name + Send + Sync,
-    K: Keeper + Send + Drop,
-    L: Listener,
->(rt: &R, alloc: Global, script: Script, keeper: K, listeners: Vec<L>) -> Option<Day>
+fn sell_in<R: Threads + Wait + Sync, N: Name + Send + Sync, K: Keeper + Send + Drop, L: Listener>(
+    rt: &R,
+    alloc: Global,
+    script: Script,
+    keeper: K,
+    listeners: Vec<L>,
+) -> Option<Day>
     requires script { script ≡ N.script }
     requires valid { is_valid N.script ≡ true }
     requires from { origin_over N.script (K.tables keeper) (K.faults keeper) (K.asked keeper)
