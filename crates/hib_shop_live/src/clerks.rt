@@ -19,6 +19,7 @@ const STOCK: u16 = 1;
 const MOST_LOOKS: u32 = 1000;
 
 /// What the clerks have done.
+#[derive(Drop)]
 pub struct Clerks {
     sold: AtomicUsize,
 }
@@ -84,16 +85,18 @@ fn sell<R: Wait, K: Keeper, N: Name, L: Listener>(
 
 /// What a sale sets.
 fn new_stock(alloc: Global, left: i64) -> Result<Vec<(u16, Cell)>, AllocError> {
-    vec![in alloc; (STOCK, Cell::Int(left))]
+    Ok(vec![in alloc; (STOCK, Cell::Int(left))]?)
 }
 
-impl<K: Keeper, N: Name, L: Listener> Clerk<K, N, L> for Clerks {
-    fn work<R: Wait>(&self, rt: &R, alloc: Global, shared: &Shared<K, N, L>) {
-        let Ok(mut session) = shared.begin(rt, alloc) else {
-            return;
-        };
+impl Clerks {
+    /// Sells in a session until none is left.
+    fn serve<R: Wait, K: Keeper, N: Name, L: Listener>(
+        &self,
+        alloc: Global,
+        session: &mut Session<'_, R, K, N, L>,
+    ) {
         for _ in 0..MOST_LOOKS {
-            match sell(alloc, &mut session) {
+            match sell(alloc, session) {
                 Ok(Sale::Made) => {
                     self.sold.fetch_add(1, Ordering::SeqCst);
                 }
@@ -101,5 +104,15 @@ impl<K: Keeper, N: Name, L: Listener> Clerk<K, N, L> for Clerks {
                 Ok(Sale::SoldOut) | Err(_) => return,
             }
         }
+    }
+}
+
+impl<K: Keeper, N: Name, L: Listener> Clerk<K, N, L> for Clerks {
+    fn work<R: Wait>(&self, rt: &R, alloc: Global, shared: &Shared<K, N, L>) {
+        let Ok(mut session) = shared.begin(rt, alloc) else {
+            return;
+        };
+        self.serve(alloc, &mut session);
+        let _ = session.close();
     }
 }

@@ -36,6 +36,7 @@ row Book 1 v0 \"Dune\" 9
 const CLERKS: u32 = 4;
 
 /// What a day in the shop came to.
+#[derive(Drop)]
 struct Day {
     /// How many copies were sold.
     sold: usize,
