@@ -1,2 +1,2 @@
-mod Crossing
-mod Captured
+pub mod Crossing
+pub mod Captured

@@ -5,10 +5,8 @@
 mod answering;
 mod session;
 mod shared;
-mod threads;
 
 pub use answering::{Unanswered, answers};
 pub use hib_live::{Live, Name, Refusal};
 pub use session::Session;
 pub use shared::{Hold, Shared};
-pub use threads::{Clerk, work_together};

@@ -16,7 +16,7 @@ use std::sync::Wait;
 
 /// A session, which one thread at a time speaks through. A statement is made step by step, under the factory's lock. If
 /// memory runs out between two steps the statement stands: `go_on` makes the rest, and until then each other call is
-/// refused as `Busy`. A session that is let go while it is open is killed, and nothing of its transaction is committed.
+/// refused as `Busy`. A session must be closed on every path: the checker refuses to let one go.
 pub struct Session<'a, R: Wait, K: Keeper, N: Name, L: Listener> {
     rt: &'a R,
     shared: &'a Shared<K, N, L>,
@@ -274,6 +274,18 @@ impl<'a, R: Wait, K: Keeper, N: Name, L: Listener> Session<'a, R, K, N, L> {
             Some(outcome) => Ok(outcome),
             None => Err(Unanswered::Fault),
         }
+    }
+
+    /// Ends the session. If it is open it is killed, as `Live::kill`: nothing of its transaction is committed, and its locks
+    /// stay until their time is over. If memory runs out it stays as it is, and nobody speaks through it any more.
+    pub fn close(self) -> Result<(), Refusal> {
+        let Session {
+            rt,
+            shared,
+            alloc,
+            number,
+        } = self;
+        shared.kill(rt, alloc, number)
     }
 
     /// Ends the transaction, and takes back its changes.

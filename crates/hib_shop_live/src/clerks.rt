@@ -1,6 +1,6 @@
 // The clerks, each of whom speaks in a session of its own.
 use hib_base::{Cell, Commit, EntityNo, Key, Row, Seq};
-use hib_live_shared::{Clerk, Name, Session, Shared, Unanswered};
+use hib_live_shared::{Name, Session, Shared, Unanswered};
 use hib_outside::{Keeper, Listener};
 use std::alloc::{AllocError, Global};
 use std::sync::Wait;
@@ -19,6 +19,7 @@ const STOCK: u16 = 1;
 const MOST_LOOKS: u32 = 1000;
 
 /// What the clerks have done.
+#[derive(Drop)]
 pub struct Clerks {
     sold: AtomicUsize,
 }
@@ -84,22 +85,36 @@ fn sell<R: Wait, K: Keeper, N: Name, L: Listener>(
 
 /// What a sale sets.
 fn new_stock(alloc: Global, left: i64) -> Result<Vec<(u16, Cell)>, AllocError> {
-    vec![in alloc; (STOCK, Cell::Int(left))]
+    Ok(vec![in alloc; (STOCK, Cell::Int(left))]?)
 }
 
-impl<K: Keeper, N: Name, L: Listener> Clerk<K, N, L> for Clerks {
-    fn work<R: Wait>(&self, rt: &R, alloc: Global, shared: &Shared<K, N, L>) {
-        let Ok(mut session) = shared.begin(rt, alloc) else {
-            return;
-        };
-        for _ in 0..MOST_LOOKS {
-            match sell(alloc, &mut session) {
-                Ok(Sale::Made) => {
-                    self.sold.fetch_add(1, Ordering::SeqCst);
-                }
-                Ok(Sale::Late) => {}
-                Ok(Sale::SoldOut) | Err(_) => return,
+/// Sells in a session until none is left.
+fn serve<R: Wait, K: Keeper, N: Name, L: Listener>(
+    alloc: Global,
+    clerks: &Clerks,
+    session: &mut Session<'_, R, K, N, L>,
+) {
+    for _ in 0..MOST_LOOKS {
+        match sell(alloc, session) {
+            Ok(Sale::Made) => {
+                clerks.sold.fetch_add(1, Ordering::SeqCst);
             }
+            Ok(Sale::Late) => {}
+            Ok(Sale::SoldOut) | Err(_) => return,
         }
     }
+}
+
+/// Sells in a session of its own.
+pub fn work_alone<R: Wait, K: Keeper, N: Name, L: Listener>(
+    rt: &R,
+    alloc: Global,
+    clerks: &Clerks,
+    shop: &Shared<K, N, L>,
+) {
+    let Ok(mut session) = shop.begin(rt, alloc) else {
+        return;
+    };
+    serve(alloc, clerks, &mut session);
+    let _ = session.close();
 }

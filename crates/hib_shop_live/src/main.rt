@@ -6,18 +6,20 @@
 
 mod clerks;
 
+ghost use denote.Param.Send.{IsSend};
 ghost use Rattle.std.specs.Prelude.{◌≡◌, true};
 ghost use Rattle.hib_base.specs.Valid.{is_valid};
 ghost use Rattle.hib_core.specs.Standing.{origin_over};
 ghost use Rattle.hib_listeners.specs.Told.{tells};
 
-use clerks::Clerks;
-use hib_base::{Script, Seq};
+use clerks::{Clerks, work_alone};
+use hib_base::{Query, Script, Seq};
 use hib_journal::Journal;
 use hib_listeners::Recorder;
 use hib_live_record::record_run;
-use hib_live_shared::{Hold, Live, Name, Shared, work_together};
+use hib_live_shared::{Hold, Live, Name, Shared};
 use hib_outside::{Keeper, Listener, MemKeeper};
+use hib_threads::spread;
 use std::alloc::{AllocError, Global};
 use std::marker::Brand;
 use std::sync::Wait;
@@ -36,6 +38,7 @@ row Book 1 v0 \"Dune\" 9
 const CLERKS: u32 = 4;
 
 /// What a day in the shop came to.
+#[derive(Drop)]
 struct Day {
     /// How many copies were sold.
     sold: usize,
@@ -43,6 +46,22 @@ struct Day {
     asked: Script,
     /// The steps that were made.
     journal: Journal,
+}
+
+/// Lets proofs say of a type that its values may go from thread to thread. It does nothing.
+fn may_be_sent<T: Send>()
+    ensures { IsSend T.row }
+{}
+
+/// Has each clerk sell on a thread of its own.
+fn take_turns<R: Threads + Wait + Sync, K: Keeper + Send, N: Name + Send + Sync, L: Listener>(
+    rt: &R,
+    alloc: Global,
+    clerks: &Clerks,
+    shop: &Shared<K, N, L>,
+) {
+    may_be_sent::<Query>();
+    spread(rt, CLERKS, &move || work_alone(rt, alloc, clerks, shop));
 }
 
 /// The clerks sell in the live factory of this name. None if it wasn't opened.
@@ -64,7 +83,7 @@ fn sell_in<R: Threads + Wait + Sync, N: Name + Send + Sync, K: Keeper + Send + D
     };
     let shop = Shared::new(live, Hold::Step);
     let clerks = Clerks::new();
-    work_together(rt, alloc, &shop, CLERKS, &clerks);
+    take_turns(rt, alloc, &clerks, &shop);
     let (_keeper, asked, journal, _listeners) = shop.close().close();
     Some(Day {
         sold: clerks.sold(),
