@@ -1,5 +1,6 @@
 // The entry whose JSON line a text is: it is guessed from the members, tested, and written again. A line is here a JSON
-// line of a journal, with five members.
+// line of a journal, with five members. The texts that are compared are written into one scratch; what stands in it
+// before and after counts for nothing.
 ghost use Rattle.hib_base.specs.Valid.{is_valid};
 ghost use Rattle.hib_entry_fields.specs.Fields as fields;
 ghost use Rattle.hib_journal.specs.Types.{Entry};
@@ -100,12 +101,18 @@ fn guess(
 }
 
 /// Whether an act's text is this one.
-fn is_act_text(alloc: Global, script: &Script, act: &Act, bytes: &[u8]) -> Result<bool, AllocError>
+fn is_act_text(
+    alloc: Global,
+    script: &Script,
+    act: &Act,
+    bytes: &[u8],
+    scratch: &mut Vec<u8>,
+) -> Result<bool, AllocError>
     ensures { IfOk result (λ b. b ≡ bytes_eq (act_text script.now act.now) bytes.now) }
 {
-    let mut text = Vec::new(alloc);
-    put_act(alloc, &mut text, script, act)?;
-    Ok(text.as_slice() == bytes)
+    scratch.clear();
+    put_act(alloc, scratch, script, act)?;
+    Ok(scratch.as_slice() == bytes)
 }
 
 /// Whether a reply's text is this one.
@@ -114,29 +121,30 @@ fn is_reply_text(
     script: &Script,
     reply: &Reply,
     bytes: &[u8],
+    scratch: &mut Vec<u8>,
 ) -> Result<bool, AllocError>
     ensures { IfOk result (λ b. b ≡ bytes_eq (reply_text script.now reply.now) bytes.now) }
 {
-    let mut text = Vec::new(alloc);
-    put_reply(alloc, &mut text, script, reply)?;
-    Ok(text.as_slice() == bytes)
+    scratch.clear();
+    put_reply(alloc, scratch, script, reply)?;
+    Ok(scratch.as_slice() == bytes)
 }
 
 /// Whether a part's word is this one.
-fn is_part_text(alloc: Global, part: Part, bytes: &[u8]) -> Result<bool, AllocError>
+fn is_part_text(part: Part, bytes: &[u8], scratch: &mut Vec<u8>) -> Result<bool, AllocError>
     ensures { IfOk result (λ b. b ≡ bytes_eq (part_text part) bytes.now) }
 {
-    let mut text = Vec::new(alloc);
-    put_part(&mut text, part)?;
-    Ok(text.as_slice() == bytes)
+    scratch.clear();
+    put_part(scratch, part)?;
+    Ok(scratch.as_slice() == bytes)
 }
 
 /// Whether a session's name is this one; without a session there must be no name.
 fn is_session_name(
-    alloc: Global,
     script: &Script,
     session: Option<SessionNo>,
     name: &Option<String>,
+    scratch: &mut Vec<u8>,
 ) -> Result<bool, AllocError>
     ensures { IfOk result (λ b. b ≡ format.same_names (option_map (session_text script.now) session)
         (option_map string_bytes name.now)) }
@@ -144,9 +152,9 @@ fn is_session_name(
     match (session, name) {
         (None, None) => Ok(true),
         (Some(session), Some(name)) => {
-            let mut text = Vec::new(alloc);
-            put_session(&mut text, script, session)?;
-            Ok(text.as_slice() == name.as_str().as_bytes())
+            scratch.clear();
+            put_session(scratch, script, session)?;
+            Ok(scratch.as_slice() == name.as_str().as_bytes())
         }
         _ => Ok(false),
     }
@@ -158,14 +166,18 @@ fn is_texts_of(
     script: &Script,
     entry: &Entry,
     line: &Line,
+    scratch: &mut Vec<u8>,
 ) -> Result<bool, AllocError>
     ensures { IfOk result (λ b. b ≡ format.same_texts (texts script.now entry.now) line.now) }
 {
+    let act = line.act.as_str().as_bytes();
+    let part = line.part.as_str().as_bytes();
+    let reply = line.reply.as_str().as_bytes();
     Ok(
-        is_act_text(alloc, script, &entry.act, line.act.as_str().as_bytes())?
-            && is_part_text(alloc, entry.part, line.part.as_str().as_bytes())?
-            && is_reply_text(alloc, script, &entry.reply, line.reply.as_str().as_bytes())?
-            && is_session_name(alloc, script, entry.session, &line.session)?
+        is_act_text(alloc, script, &entry.act, act, scratch)?
+            && is_part_text(entry.part, part, scratch)?
+            && is_reply_text(alloc, script, &entry.reply, reply, scratch)?
+            && is_session_name(script, entry.session, &line.session, scratch)?
             && entry.tick.0 == line.tick,
     )
 }
@@ -176,12 +188,13 @@ fn is_entry_of(
     script: &Script,
     entry: &Entry,
     line: &Line,
+    scratch: &mut Vec<u8>,
 ) -> Result<bool, AllocError>
     ensures { IfOk result (λ b. b ≡ entries.is_known script.now entry.now && format.same_texts
         (texts script.now entry.now) line.now) }
 {
     if is_known(script, entry) {
-        is_texts_of(alloc, script, entry, line)
+        is_texts_of(alloc, script, entry, line, scratch)
     } else {
         Ok(false)
     }
@@ -193,6 +206,7 @@ fn entry_of(
     script: &Script,
     names: &SessionNames,
     line: &Line,
+    scratch: &mut Vec<u8>,
 ) -> Result<Option<Entry>, AllocError>
     requires { is_valid script.now ≡ true }
     ensures found { IfOk result (λ o. IfSome o (λ e. (format.guess script.now line.now ≡ Some e)
@@ -206,7 +220,7 @@ fn entry_of(
     let Some(entry) = guess(alloc, script, names, line)? else {
         return Ok(None);
     };
-    if is_entry_of(alloc, script, &entry, line)? {
+    if is_entry_of(alloc, script, &entry, line, scratch)? {
         Ok(Some(entry))
     } else {
         Ok(None)
@@ -220,6 +234,7 @@ fn read_entry(
     script: &Script,
     names: &SessionNames,
     text: &str,
+    scratch: &mut Vec<u8>,
 ) -> Result<Option<Entry>, AllocError>
     requires { is_valid script.now ≡ true }
     ensures found { IfOk result (λ o. IfSome o (IsLine script.now text.now)) }
@@ -228,7 +243,7 @@ fn read_entry(
     let Some(line) = read_line(alloc, text)? else {
         return Ok(None);
     };
-    entry_of(alloc, script, names, &line)
+    entry_of(alloc, script, names, &line, scratch)
 }
 
 /// The entry whose JSON line some bytes are; none if they are no well-formed entry's. Fails for want of memory alone.
@@ -237,13 +252,14 @@ pub fn line_entry(
     script: &Script,
     names: &SessionNames,
     line: &[u8],
+    scratch: &mut Vec<u8>,
 ) -> Result<Option<Entry>, AllocError>
     requires { is_valid script.now ≡ true }
     ensures found { IfOk result (λ o. IfSome o (IsLine script.now line.now)) }
     ensures none { IfOk result (λ o. IfNone o (IsBad script.now line.now)) }
 {
     match str::from_utf8(line) {
-        Ok(text) => read_entry(alloc, script, names, text),
+        Ok(text) => read_entry(alloc, script, names, text, scratch),
         Err(_) => Ok(None),
     }
 }

@@ -46,10 +46,11 @@ fn read_named(
     ensures lines { OnOk result (AreLines script.now (lines_of text.now) journal.new.list) }
     ensures refused { IfErr result (IsRefused script.now (lines_of text.now) first) }
 {
+    let mut scratch = Vec::new(alloc);
     let mut start = 0;
     while start < text.len() {
         let end = start + line_length(&text[start..]);
-        match line_entry(alloc, script, names, &text[start..end])? {
+        match line_entry(alloc, script, names, &text[start..end], &mut scratch)? {
             Some(entry) => journal.push(entry)?,
             None => return Err(JournalFault::Refused(refused(first, journal.len()))),
         }

@@ -9,7 +9,7 @@ use Rattle.hib_texts.specs.Texts.{session_text}
 use Rattle.hib_json_lines.specs.Line.{session_data, session_value, json_line, LineText, object_of, texts}
 
 -- as compact_text spells it
-spelled : (l : LineText) → compact_text (object_of l) ≡ codes "{\"act\":" ++ (quoted l.act ++ (codes ",\"part\":" ++ (quoted l.part ++ (codes ",\"reply\":" ++ (quoted l.reply ++ (codes ",\"session\":" ++ (compact_text (session_data l.session) ++ (codes ",\"tick\":" ++ (decimal l.tick ++ codes "}")))))))))
+pub spelled : (l : LineText) → compact_text (object_of l) ≡ codes "{\"act\":" ++ (quoted l.act ++ (codes ",\"part\":" ++ (quoted l.part ++ (codes ",\"reply\":" ++ (quoted l.reply ++ (codes ",\"session\":" ++ (compact_text (session_data l.session) ++ (codes ",\"tick\":" ++ (decimal l.tick ++ codes "}")))))))))
 unfolding escape_byte
 spelled l = refl
 

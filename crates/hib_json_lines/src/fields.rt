@@ -7,6 +7,7 @@ ghost use Rattle.serde_json.specs.View.{view};
 ghost use Rattle.std.specs.Option.{option_map};
 ghost use Rattle.std.specs.Prelude.{◌≡◌, Some, None, IfOk, string_bytes, IfSome, IfNone, ◌≤◌, ◌↔◌, IsTrue};
 
+use crate::straight::straight;
 use serde_json::{Value, json};
 use std::alloc::{AllocError, Global};
 use std::marker::Model;
@@ -66,7 +67,20 @@ fn object(alloc: Global, line: &Line) -> Result<Value, AllocError>
 /// The five members of the object that a text is, or none if it is no object with exactly these, of their forms. They
 /// may stand in any order and with any spacing; of one that stands twice the later counts. Fails for want of memory
 /// alone.
+#[tactic(auto, using(crate::proofs::ReadsBack::reads_back))]
 pub fn read_line(alloc: Global, text: &str) -> Result<Option<Line>, AllocError>
+    ensures found { IfOk result (λ o. IfSome o (λ l. read text.now ≡ Some (object_of l))) }
+    ensures none { IfOk result (λ o. IfNone o ((l : LineText) → read text.now ≡ Some (object_of l)
+        → ⊥)) }
+{
+    if let Some(line) = straight(alloc, text.as_bytes())? {
+        return Ok(Some(line));
+    }
+    read_any(alloc, text)
+}
+
+// The same by the value that the text is, whatever its form.
+fn read_any(alloc: Global, text: &str) -> Result<Option<Line>, AllocError>
     ensures found { IfOk result (λ o. IfSome o (λ l. read text.now ≡ Some (object_of l))) }
     ensures none { IfOk result (λ o. IfNone o ((l : LineText) → read text.now ≡ Some (object_of l)
         → ⊥)) }

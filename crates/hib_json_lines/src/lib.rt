@@ -5,6 +5,7 @@ mod escapes;
 mod fields;
 mod lines;
 mod sending;
+mod straight;
 
 pub use escapes::put_quoted;
 pub use fields::{Line, read_line};
