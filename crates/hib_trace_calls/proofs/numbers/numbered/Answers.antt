@@ -1,0 +1,21 @@
+use Rattle.hib_trace_calls.specs.Numbers.{IsCall}
+use Rattle.hib_trace_calls.proofs.Grown.{apart_on, calls_kept, keys_below, transactions_below, zip_step}
+use Rattle.hib_trace_calls.proofs.numbers.numbered.Goals as goal
+
+pub loop-event-preserved : goal.loop-event-preserved
+loop-event-preserved c =
+    let t = c.loop-event.texts in
+    let u = c.number_event.new.texts in
+    record {
+      calls = zip_step (IsCall u) c.args.events.now c.loop-event.calls.items c.push.new.self.items c.loop-event.event-index
+          c.event-item.result c.in_ok-number_event.field-0 c.loop-event-test.true c.event-item.is
+          (calls_kept t u _ c.loop-event.calls.items c.in_ok-number_event.ensures.grows c.loop-event.invariant.calls)
+          c.in_ok-number_event.ensures.is c.in_ok-push.ensures.items;
+      apart = apart_on t u c.in_ok-number_event.ensures.grows c.loop-event.invariant.apart;
+    }
+
+pub returns-clause-keys : goal.returns-clause-keys
+returns-clause-keys c = keys_below c.loop-event.texts _ c.loop-event.calls.items c.loop-event.invariant.calls
+
+pub returns-clause-transactions : goal.returns-clause-transactions
+returns-clause-transactions c = transactions_below c.loop-event.texts _ c.loop-event.calls.items c.loop-event.invariant.calls

@@ -1,0 +1,10 @@
+use Rattle.std.proofs.Common.{take}
+use Rattle.std.specs.List.{AllZip}
+use Rattle.hib_trace_calls.specs.Numbers.{AreApart, IsCall}
+use Rattle.hib_trace_calls.proofs.numbers.numbered.Given as goal
+
+abbrev pub invariant-loop-event : goal.invariant-loop-event
+invariant-loop-event l = record {
+  calls : AllZip (IsCall l.texts) (take l.event-index l.events) l.calls.items;
+  apart : AreApart l.texts;
+}

@@ -1,0 +1,3 @@
+pub mod Hits
+pub mod Told
+pub mod Traces
