@@ -1,2 +1,4 @@
 pub mod Grown
 pub mod Said
+pub mod Kills
+pub mod Keeps

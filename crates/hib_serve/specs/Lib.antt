@@ -1,3 +1,4 @@
 pub mod Statements
 pub mod Sessions
+pub mod Names
 pub mod Served

@@ -1,9 +1,6 @@
 -- What a line comes to, and the answer that it gets.
-use Rattle.std.specs.Prelude.{◌≡◌, ◌⊎◌, ℕ, List, length, drop, not, string_bytes, Option, Some, None, option_map, Result, Ok, Err, MatchResult}
-use Rattle.std.specs.declared.alloc.Global.{Global}
-use Rattle.std.specs.declared.vec.Vec.{Vec}
+use Rattle.std.specs.Prelude.{◌≡◌, ◌⊎◌, ℕ, false, List, length, drop, not, string_bytes, Option, Some, None, option_map, Result, Ok, Err, MatchResult}
 use Rattle.hib_base.specs.declared.scripts.Order.{Order}
-use Rattle.hib_journal.specs.Types.{Entry}
 use Rattle.hib_live.specs.Live.{LiveState}
 use Rattle.hib_statements.specs.Places.{place_of}
 use Rattle.hib_serve_requests.specs.Lines.{Asks, IsFault}
@@ -13,12 +10,9 @@ use Rattle.hib_serve_requests.specs.declared.requests.Fault.{Fault}
 use Rattle.hib_serve_requests.specs.declared.requests.Id.{Id}
 use Rattle.hib_serve_answers.specs.Answers.{done_text, refused_text}
 use Rattle.hib_serve_answers.specs.declared.refusals.Refusal.{Refusal}
-use Rattle.hib_serve.specs.Sessions.{Adds, HasSaid, HasGoneOn, HasKilled, HasEvicted, HasObeyed, IsRefused, IsWhyUnsaid, IsWhyKept, key_in}
+use Rattle.hib_serve.specs.Sessions.{AreClosed, HasOnlyKilled, HasSaid, HasGoneOn, HasKilled, HasEvicted, HasObeyed, IsRefused, IsWhyUnsaid, IsWhyKept, key_in}
+use Rattle.hib_serve.specs.Names.{Named, NamesBehind}
 use Rattle.hib_serve.specs.declared.answering.Done.{Done}
-
--- the sessions that names have begun
-abbrev pub Named : Type 0
-Named = List (Vec ℕ Global × ℕ)
 
 -- an answer is of a session of this name, or of none
 abbrev pub IsOf : Option (List ℕ) → Done → Type 0
@@ -31,7 +25,7 @@ HasDone (goes_on w) names x y d = HasGoneOn (place_of w names) x y (not d.stoppe
 HasDone (kills w) names x y d = HasKilled (place_of w names) x y × IsOf (Some w) d
 HasDone (evicts w id) names x y d = HasEvicted (key_in x.script w id) x y × IsOf None d
 HasDone restarts names x y d = HasObeyed Order.Restart x y × IsOf None d
-HasDone ends names x y d = (y.script ≡ x.script) × ((es : List Entry) × Adds es x.journal y.journal) × IsOf None d
+HasDone ends names x y d = HasOnlyKilled x y × (d.stopped ≡ false → AreClosed y) × IsOf None d
 
 -- the name has begun no session; or memory ran out
 abbrev pub IsUnknown : Option ℕ → Refusal → Type 0
@@ -66,11 +60,12 @@ answer_of n y i (Ok d) =
     done_text y.script (option_map id_text i) (option_map string_bytes d.session) (drop n y.journal.list) d.stopped
 answer_of n y i (Err r) = refused_text (option_map id_text i) r
 
--- a line was answered by this text, which lists the entries that were added
-pub record IsServed (line : List ℕ) (names : Named) (x y : LiveState) (text : List ℕ) : Type 0 where
+-- a line was answered by this text, which lists the entries that were added. The names' sessions were xs, and are ys
+pub record IsServed (line : List ℕ) (xs ys : Named) (x y : LiveState) (text : List ℕ) : Type 0 where
   pub id : Option Id
   pub asked : Result Asked Fault
   pub reads : MatchResult asked (Asks line id) (IsFault line id)
   pub came : Result Done Refusal
-  pub came_to : CameTo asked names x y came
+  pub came_to : CameTo asked xs x y came
+  pub named : NamesBehind asked came x y xs ys
   pub answer : text ≡ answer_of (length x.journal.list) y id came

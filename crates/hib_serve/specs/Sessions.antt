@@ -1,16 +1,16 @@
 -- Sessions by the names that the application gives them, and what they do for a request.
-use Rattle.std.specs.Prelude.{◌≡◌, ◌≤◌, ◌++◌, ◌&&◌, ℕ, List, length, Bool, true, false, Option, Some, None, Result, Ok, ◌⊎◌, if◌then◌else◌}
+use Rattle.std.specs.Prelude.{◌≡◌, ◌≤◌, ◌<◌, ◌++◌, ◌&&◌, ℕ, List, length, Bool, true, false, Option, Some, None, Result, Ok, ◌⊎◌, if◌then◌else◌}
 use Rattle.std.specs.List.{list_all}
 use Rattle.hib_base.specs.Fits.{fits_statement, is_identifier}
 use Rattle.hib_base.specs.Scripts.{is_known}
 use Rattle.hib_base.specs.declared.numbers.Key.{Key}
 use Rattle.hib_base.specs.declared.refusals.Kind.{Kind}
 use Rattle.hib_base.specs.declared.scripts.Order.{Order}
-use Rattle.hib_journal.specs.Types.{Statement, Script, Entry}
+use Rattle.hib_journal.specs.Types.{Statement, Script, Act, Entry}
 use Rattle.hib_journal.specs.Next.{is_cached}
 use Rattle.hib_journal.specs.Kept.{Kept, past}
 use Rattle.hib_journal.specs.Played.{has_next, play_order}
-use Rattle.hib_journal.specs.Sessions.{is_by, was_killed}
+use Rattle.hib_journal.specs.Sessions.{is_by, is_open, was_killed}
 use Rattle.hib_core.specs.Playing.{played, Leads}
 use Rattle.hib_live.specs.Asked.{name_of, with_session, with_statement}
 use Rattle.hib_live.specs.Live.{LiveState}
@@ -83,6 +83,21 @@ abbrev pub IsRefused : LiveState → LiveState → Type 0
 IsRefused x y = (y.journal.list ≡ x.journal.list) × ((y.script ≡ x.script) ⊎ (y.script ≡ with_named x.script None))
 
 -- ---- what else is done
+
+-- each session that has begun a transaction has ended it, or was killed
+abbrev pub AreClosed : LiveState → Type 0
+AreClosed x = (n : ℕ) → n < length x.script.sessions → is_open n (past x.journal) ≡ false
+
+abbrev pub is_killing : Act → Bool
+is_killing (Act.Kill n) = true
+is_killing _ = false
+
+-- what was asked is the same, and the entries that were added are kills
+pub record HasOnlyKilled (x y : LiveState) : Type 0 where
+  pub asked : y.script ≡ x.script
+  pub added : List Entry
+  pub grown : Adds added x.journal y.journal
+  pub kills : list_all (λ e. is_killing e.act) added ≡ true
 
 -- the steps that were left of a named session's statement were made; to the end, if they are whole
 pub record HasGoneOn (named : Option ℕ) (x y : LiveState) (whole : Bool) : Type 0 where

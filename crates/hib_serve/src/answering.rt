@@ -1,8 +1,9 @@
 // What a request comes to.
+ghost use Rattle.hib_serve.specs.Names.{NamesBehind, NamesDone, NamesRefused};
 ghost use Rattle.hib_serve.specs.Served.{CameTo, HasDone, IsWhy, refusal_for};
 ghost use Rattle.hib_serve.specs.Sessions.{IsRefused};
 ghost use Rattle.hib_serve_requests.specs.Requests.{asked_text};
-ghost use Rattle.std.specs.Prelude.{◌≡◌, IfErr, IfOk, None, OnErr, Some, not};
+ghost use Rattle.std.specs.Prelude.{◌≡◌, IfErr, IfOk, None, OnErr, OnOk, Some, is_ok, not};
 
 use crate::names::Names;
 use crate::orders::{evict, kill, kill_all, restart};
@@ -11,7 +12,7 @@ use hib_live::{LiveCore, Name};
 use hib_outside::Keeper;
 use hib_serve_answers::Refusal;
 use hib_serve_requests::{Asked, Fault};
-use std::alloc::Global;
+use std::alloc::{AllocError, Global};
 
 /// What was done for a request.
 #[derive(Drop)]
@@ -24,25 +25,25 @@ pub struct Done {
     pub over: bool,
 }
 
-// What was done for a session, to the end or not.
-fn of_session(session: String, whole: bool) -> Done
+// What was done for a session, whose steps came to this.
+fn of_session(session: String, made: Result<(), AllocError>) -> Done
     ensures session { result.session ≡ Some session }
-    ensures stopped { result.stopped ≡ not whole }
+    ensures stopped { result.stopped ≡ not (is_ok made) }
 {
     Done {
         session: Some(session),
-        stopped: !whole,
+        stopped: made.is_err(),
         over: false,
     }
 }
 
-fn of_none(whole: bool, over: bool) -> Done
+fn of_none(made: Result<(), AllocError>, over: bool) -> Done
     ensures session { result.session ≡ None }
-    ensures stopped { result.stopped ≡ not whole }
+    ensures stopped { result.stopped ≡ not (is_ok made) }
 {
     Done {
         session: None,
-        stopped: !whole,
+        stopped: made.is_err(),
         over,
     }
 }
@@ -57,27 +58,31 @@ pub fn perform<K: Keeper, N: Name>(
     ensures done { IfOk result (HasDone (asked_text asked) names.old.entries core.old core.new) }
     ensures why { IfErr result (IsWhy (asked_text asked) names.old.entries core.old) }
     ensures err { OnErr result (IsRefused core.old core.new) }
+    ensures named { OnOk result (NamesDone (asked_text asked) core.old.script names.old.entries
+        names.new.entries) }
+    ensures unnamed { OnErr result (NamesRefused (asked_text asked) core.old.script core.new.script
+        names.old.entries names.new.entries) }
 {
     match asked {
         Asked::Say { session, statement } => {
-            let whole = say(alloc, core, names, session.as_bytes(), statement.as_bytes())?;
-            Ok(of_session(session, whole))
+            let made = say(alloc, core, names, session.as_bytes(), statement.as_bytes())?;
+            Ok(of_session(session, made))
         }
         Asked::GoOn { session } => {
-            let whole = go_on(alloc, core, names, session.as_bytes())?;
-            Ok(of_session(session, whole))
+            let made = go_on(alloc, core, names, session.as_bytes())?;
+            Ok(of_session(session, made))
         }
         Asked::Kill { session } => {
             kill(core, names, session.as_bytes())?;
-            Ok(of_session(session, true))
+            Ok(of_session(session, Ok(())))
         }
         Asked::Evict { entity, id } => {
             evict(alloc, core, entity.as_bytes(), id)?;
-            Ok(of_none(true, false))
+            Ok(of_none(Ok(()), false))
         }
         Asked::Restart => {
             restart(core)?;
-            Ok(of_none(true, false))
+            Ok(of_none(Ok(()), false))
         }
         Asked::End => Ok(of_none(kill_all(core), true)),
     }
@@ -101,7 +106,8 @@ pub fn come_to<K: Keeper, N: Name>(
     names: &mut Names,
     asked: Result<Asked, Fault>,
 ) -> Result<Done, Refusal>
-    ensures { CameTo asked names.old.entries core.old core.new result }
+    ensures came { CameTo asked names.old.entries core.old core.new result }
+    ensures named { NamesBehind asked result core.old core.new names.old.entries names.new.entries }
 {
     match asked {
         Ok(asked) => perform(alloc, core, names, asked),

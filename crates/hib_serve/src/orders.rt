@@ -1,10 +1,9 @@
 // What is done to sessions and regions from outside.
 ghost use Rattle.hib_base.specs.declared.scripts.Order.{Order};
-ghost use Rattle.hib_serve.specs.Sessions.{Adds, HasEvicted, HasKilled, HasObeyed, IsWhyKept, key_at, key_in};
+ghost use Rattle.hib_serve.specs.Sessions.{AreClosed, HasEvicted, HasKilled, HasObeyed, HasOnlyKilled, IsWhyKept, key_at, key_in};
 ghost use Rattle.hib_serve_answers.specs.declared.refusals.Refusal.{Refusal};
 ghost use Rattle.hib_statements.specs.Places.{place_of};
-ghost use Rattle.std.specs.Prelude.{◌≡◌, ◌⊎◌, IfErr, List, None, OnErr, OnOk};
-ghost use Rattle.hib_base.specs.declared.entries.Entry.{Entry};
+ghost use Rattle.std.specs.Prelude.{◌≡◌, ◌⊎◌, IfErr, None, OnErr, OnOk};
 
 use crate::names::{Names, number_of};
 use hib_base::{EntityNo, Key, Kind, Script, SessionNo};
@@ -94,19 +93,16 @@ pub fn restart<K: Keeper, N: Name>(core: &mut LiveCore<K, N>) -> Result<(), Refu
     }
 }
 
-/// Kills each session that is open. `false` if memory ran out before the last one.
-pub fn kill_all<K: Keeper, N: Name>(core: &mut LiveCore<K, N>) -> bool
-    ensures asked { core.new.script ≡ core.old.script }
-    ensures grown { (es : List Entry) × Adds es core.old.journal core.new.journal }
+/// Kills each session that is open. Fails for want of memory alone, so that some may be open still.
+pub fn kill_all<K: Keeper, N: Name>(core: &mut LiveCore<K, N>) -> Result<(), AllocError>
+    ensures killed { HasOnlyKilled core.old core.new }
+    ensures closed { OnOk result (AreClosed core.new) }
 {
-    for number in 0..u32::MAX {
-        if number as usize >= core.sessions() {
-            break;
-        }
-        match core.kill(SessionNo(number)) {
-            Ok(()) => {}
-            Err(_) => return false,
-        }
+    for place in 0..core.sessions() {
+        let Ok(number) = u32::try_from(place) else {
+            return Err(AllocError);
+        };
+        core.kill(SessionNo(number))?;
     }
-    true
+    Ok(())
 }

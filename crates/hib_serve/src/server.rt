@@ -8,11 +8,12 @@ ghost use Rattle.hib_law.specs.Hits.{AreListsGiven};
 ghost use Rattle.hib_law.specs.Law.{Obeys};
 ghost use Rattle.hib_live_law.specs.Grown.{HasGrown as HasGrownInto};
 ghost use Rattle.hib_outside.specs.Causes.{Rose};
+ghost use Rattle.hib_serve.specs.Names.{KeepsSessions};
 ghost use Rattle.hib_serve.specs.Served.{IsServed, answer_of};
-ghost use Rattle.hib_serve.specs.Sessions.{Adds};
+ghost use Rattle.hib_serve.specs.Sessions.{AreClosed, HasOnlyKilled};
 ghost use Rattle.hib_serve_requests.specs.Requests.{id_text};
 ghost use Rattle.hib_store.specs.Stores.{handed_back, is_store_fault};
-ghost use Rattle.std.specs.Prelude.{◌≡◌, ◌++◌, ◌≤◌, [], IfErr, IfOk, IfSome, drop, length, option_map, string_bytes, true};
+ghost use Rattle.std.specs.Prelude.{◌≡◌, ◌++◌, ◌≤◌, [], IfErr, IfOk, IfSome, OnOk, drop, length, option_map, string_bytes, true};
 
 use crate::answering::{Done, come_to};
 use crate::names::Names;
@@ -102,13 +103,14 @@ impl<K: Keeper, N: Name> Server<K, N> {
     }
 
     /// Does what a line asks for, and answers it. A line is given without its line feed. A line that is refused adds no
-    /// entry, and the next one may be given.
+    /// entry, and the next one may be given. A name that has a session keeps it, whatever comes of the line.
     ///
     /// Fails for want of memory alone: of a line that couldn't be read nothing is done; of an answer that couldn't be
     /// made the request may have been done.
     pub fn serve_line(&mut self, alloc: Global, line: &[u8]) -> Result<Served, AllocError>
-        ensures { IfOk result (λ s. IsServed line.now self.old.names.entries
-            self.old.core self.new.core s.text.items) }
+        ensures served { IfOk result (λ s. IsServed line.now self.old.names.entries
+            self.new.names.entries self.old.core self.new.core s.text.items) }
+        ensures keeps { KeepsSessions self.old.names.entries self.new.names.entries }
     {
         let Request { id, asked } = read_request(alloc, line)?;
         let before = self.core.journal().len();
@@ -120,9 +122,12 @@ impl<K: Keeper, N: Name> Server<K, N> {
         })
     }
 
-    /// Kills each session that is open. `false` if memory ran out before the last one.
-    pub fn end(&mut self) -> bool
-        ensures asked { self.new.core.script ≡ self.old.core.script }
+    /// Kills each session that is open: each has ended its transaction then, or was killed. Fails for want of memory
+    /// alone, so that some may be open still.
+    pub fn end(&mut self) -> Result<(), AllocError>
+        ensures killed { HasOnlyKilled self.old.core self.new.core }
+        ensures closed { OnOk result (AreClosed self.new.core) }
+        ensures names { self.new.names.entries ≡ self.old.names.entries }
     {
         kill_all(&mut self.core)
     }

@@ -1,10 +1,11 @@
-use Rattle.std.proofs.Common.{◌≡◌, List}
-use Rattle.hib_journal.specs.Types.{Entry}
-use Rattle.hib_serve.specs.Sessions.{Adds}
+use Rattle.std.proofs.Common.{◌≡◌, ◌<◌, ℕ, false}
+use Rattle.hib_journal.specs.Kept.{past}
+use Rattle.hib_journal.specs.Sessions.{is_open}
+use Rattle.hib_serve.specs.Sessions.{HasOnlyKilled}
 use Rattle.hib_serve.proofs.orders.kill_all.Given as goal
 
-abbrev pub invariant-loop-number : goal.invariant-loop-number
-invariant-loop-number g l = record {
-  asked : l.core.script ≡ l.fn.core.script;
-  grown : (es : List Entry) × Adds es l.fn.core.journal l.core.journal;
+abbrev pub invariant-loop-place : goal.invariant-loop-place
+invariant-loop-place g l = record {
+  killed : HasOnlyKilled l.fn.core l.core;
+  closed : (n : ℕ) → n < l.place → is_open n (past l.core.journal) ≡ false;
 }

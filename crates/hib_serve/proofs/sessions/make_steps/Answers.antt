@@ -1,5 +1,8 @@
-use Rattle.std.proofs.Common.{Ok, ap, ◌∙◌}
+use Rattle.std.proofs.Common.{◌≤◌, length, Ok, Err, ap, ◌∙◌, subst, sym}
+use Rattle.hib_journal.specs.Kept.{past}
+use Rattle.hib_journal.specs.Types.{Script}
 use Rattle.hib_serve.proofs.Grown.{goes_on, stays}
+use Rattle.hib_serve.proofs.Kills.{none_due}
 use Rattle.hib_serve.proofs.sessions.make_steps.Goals as goal
 
 pub steps-preserved : goal.steps-preserved
@@ -17,3 +20,8 @@ returns-in-Ok-Done-clause-ran g c =
 pub returns-in-Err-clause-ran : goal.returns-in-Err-clause-ran
 returns-in-Err-clause-ran g c =
     stays c.args.number c.args.core.now.journal c.steps.core.journal c.step.new.self.journal c.steps.invariant.ran c.in-Err.ensures.same
+
+pub returns-in-Err-NoSession-clause-over : goal.returns-in-Err-NoSession-clause-over
+returns-in-Err-NoSession-clause-over g c =
+    let gone : length c.steps.core.script.sessions ≤ c.args.number = c.in-Err-NoSession.ensures.unknown.0 (ap Err c.in-Err-NoSession.field-0-is) in
+    none_due c.step.new.self.script (past c.step.new.self.journal) c.args.number (subst (λ (s : Script). length s.sessions ≤ c.args.number) (sym c.step.ensures.asked) gone)
