@@ -7,7 +7,7 @@ use Rattle.serde_json.specs.Written.{compact_text, items_text, members_text}
 use Rattle.hib_journal.specs.Types.{Entry, Script}
 use Rattle.hib_json_lines.specs.Line.{json_line, object_of, texts}
 use Rattle.hib_serve_requests.specs.Requests.{IdText, id_data}
-use Rattle.hib_serve_answers.specs.Answers.{and_id, and_text, stop, done_text, record_text, refused_text}
+use Rattle.hib_serve_answers.specs.Answers.{and_id, and_text, stop, done_text, refused_text}
 use Rattle.hib_serve_answers.specs.Pieces.{id_behind, id_before, text_behind, more_entries, all_entries}
 use Rattle.hib_serve_answers.specs.Refusals.{word_of, why_of}
 use Rattle.hib_serve_answers.specs.declared.refusals.Refusal.{Refusal}
@@ -99,18 +99,6 @@ pub done_put : (o0 o1 o2 o3 o4 o5 o6 o7 : List ℕ) (script : Script) (i : Optio
 done_put o0 o1 o2 o3 o4 o5 o6 o7 script i s es b e1 e2 e3 e4 e5 e6 e7 =
     rw (e7, e6, e5, e4, e3, e2, e1) (joined o0 (codes "{\"answers\":[") (all_entries script es) (codes "]") (id_behind i) (text_behind (codes ",\"session\":") s) (text_behind (codes ",\"stopped\":") (stop b)) (codes "}"))
     ∙ ap (λ (t : List ℕ). o0 ++ t) (sym (done_spelled script i s es b))
-
-joined_five : (o a b c d e : List ℕ) → ((((o ++ a) ++ b) ++ c) ++ d) ++ e ≡ o ++ (a ++ (b ++ (c ++ (d ++ e))))
-joined_five o a b c d e = simp append_assoc
-
-record_spelled : (i : Option IdText) (s : List ℕ) → record_text i s ≡ codes "{" ++ (id_before i ++ (codes "\"record\":" ++ (quoted s ++ codes "}")))
-unfolding escape_byte record_text
-record_spelled i s = ap (λ (t : List ℕ). codes "{" ++ t) (id_is_before i (codes "record") (string s) no_members)
-
-pub record_put : (o0 o1 o2 o3 o4 o5 : List ℕ) (i : Option IdText) (s : List ℕ) → o1 ≡ o0 ++ codes "{" → o2 ≡ o1 ++ id_before i → o3 ≡ o2 ++ codes "\"record\":" → o4 ≡ o3 ++ quoted s →
-    o5 ≡ o4 ++ codes "}" → o5 ≡ o0 ++ record_text i s
-record_put o0 o1 o2 o3 o4 o5 i s e1 e2 e3 e4 e5 =
-    rw (e5, e4, e3, e2, e1) (joined_five o0 (codes "{") (id_before i) (codes "\"record\":") (quoted s) (codes "}")) ∙ ap (λ (t : List ℕ). o0 ++ t) (sym (record_spelled i s))
 
 joined_six : (o a b c d e f : List ℕ) → (((((o ++ a) ++ b) ++ c) ++ d) ++ e) ++ f ≡ o ++ (a ++ (b ++ (c ++ (d ++ (e ++ f)))))
 joined_six o a b c d e f = simp append_assoc

@@ -34,10 +34,7 @@ done_object script i session es stopped =
     object (member (codes "answers") (entries_data script es)
     (and_id i (and_text (codes "session") session (and_text (codes "stopped") (stop stopped) no_members))))
 
--- ---- the script of the run, and a refusal
-
-abbrev pub record_object : Option IdText → List ℕ → Data
-record_object i script = object (and_id i (member (codes "record") (string script) no_members))
+-- ---- a refusal
 
 abbrev pub refused_object : Option IdText → Refusal → Data
 refused_object i r =
@@ -47,9 +44,6 @@ refused_object i r =
 
 unfoldable pub done_text : Script → Option IdText → Option (List ℕ) → List Entry → Bool → List ℕ
 done_text script i session es stopped = compact_text (done_object script i session es stopped)
-
-unfoldable pub record_text : Option IdText → List ℕ → List ℕ
-record_text i script = compact_text (record_object i script)
 
 unfoldable pub refused_text : Option IdText → Refusal → List ℕ
 refused_text i r = compact_text (refused_object i r)

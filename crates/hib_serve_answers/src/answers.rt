@@ -1,5 +1,5 @@
 // Answers, appended to bytes.
-ghost use Rattle.hib_serve_answers.specs.Answers.{done_text, record_text, refused_text};
+ghost use Rattle.hib_serve_answers.specs.Answers.{done_text, refused_text};
 ghost use Rattle.hib_serve_requests.specs.Requests.{id_text};
 ghost use Rattle.std.specs.Option.{option_map};
 ghost use Rattle.std.specs.Prelude.{◌≡◌, ◌++◌, string_bytes, OnOk};
@@ -34,25 +34,6 @@ pub fn put_done(
     put_id_behind(alloc, out, id)?;
     put_session(out, session)?;
     put_stop(out, stopped)?;
-    out.extend_from_slice(b"}")?;
-    Ok(())
-}
-
-/// The answer that has the script of the run as one text. Its bytes stand as they are, but for what JSON escapes. There
-/// is no line feed behind it. Fails for want of memory alone.
-pub fn put_record(
-    alloc: Global,
-    out: &mut Vec<u8>,
-    id: &Option<Id>,
-    script: &[u8],
-) -> Result<(), AllocError>
-    ensures { OnOk result (out.new.items ≡ out.old.items
-        ++ record_text (option_map id_text id.now) script.now) }
-{
-    out.extend_from_slice(b"{")?;
-    put_id_before(alloc, out, id)?;
-    out.extend_from_slice(b"\"record\":")?;
-    put_quoted(out, script)?;
     out.extend_from_slice(b"}")?;
     Ok(())
 }
