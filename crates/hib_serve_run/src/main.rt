@@ -21,7 +21,10 @@ use std::marker::Brand;
 use std::process::ExitCode;
 
 /// The most bytes that a frame may have, as a script.
-const MOST_FRAME: usize = 1048576;
+const MOST_FRAME: u32 = 1048576;
+
+/// The most bytes that a request may have; a longer one is refused by its first ones.
+const MOST_REQUEST: u32 = 65536;
 
 /// Answers each line of the input.
 fn answer_lines<K: Keeper, N: Name, B: BufRead>(
@@ -31,7 +34,7 @@ fn answer_lines<K: Keeper, N: Name, B: BufRead>(
     reader: &mut B,
 ) -> io::Result<()> {
     for _ in 0..u64::MAX {
-        let Some(line) = next_line(alloc, reader)? else {
+        let Some(line) = next_line(alloc, reader, MOST_REQUEST)? else {
             break;
         };
         let served = server.serve_line(alloc, line.as_slice())?;
@@ -60,7 +63,7 @@ fn serve_in<N: Name, K: Keeper + Drop, B: BufRead>(
         return print_line(rt, b"{\"refused\":\"memory\"}");
     };
     let answered = answer_lines(rt, alloc, &mut server, reader);
-    server.end();
+    let _ = server.end();
     server.close();
     answered
 }
@@ -81,11 +84,13 @@ fn serve<K: Keeper + Drop, B: BufRead>(
 fn main(rt: HostRuntime) -> io::Result<ExitCode> {
     let alloc = rt.alloc();
     let mut reader = BufReader::new(alloc, rt.reader())?;
-    let frame = read_frame(alloc, &mut reader)?;
-    if frame.len() > MOST_FRAME {
-        let _ = eprintln!(rt; "hib: too long");
-        return Ok(ExitCode::from(6));
-    }
+    let frame = match read_frame(alloc, &mut reader, MOST_FRAME)? {
+        Some(frame) if frame.len() <= MOST_FRAME as usize => frame,
+        _ => {
+            let _ = eprintln!(rt; "hib: too long");
+            return Ok(ExitCode::from(6));
+        }
+    };
     match hib_script::read(alloc, frame.as_slice()) {
         Ok(script) => {
             let keeper = MemKeeper::new(alloc, Seq::new(alloc));
