@@ -1,7 +1,6 @@
--- The rows that were read so far, before those that are left.
+-- What was read so far, before what is left.
 use Rattle.std.proofs.Common.{List, ◌++◌, Option, Some, None}
-use Rattle.hib_trace_lines.specs.Events.{RowText}
 
-abbrev pub after : List RowText → Option (List RowText) → Option (List RowText)
-after rs None = None
-after rs (Some ss) = Some (rs ++ ss)
+abbrev pub after : {A : Type 0} → List A → Option (List A) → Option (List A)
+after xs None = None
+after xs (Some ys) = Some (xs ++ ys)

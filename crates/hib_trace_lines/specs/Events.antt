@@ -17,5 +17,6 @@ pub record EventText : Type 0 where
   pub base : Option (List ℕ)
   pub outcome : Option Outcome
   pub writes : List RowText
+  pub tables : List (List ℕ)
   pub begin : ℕ
   pub end : ℕ

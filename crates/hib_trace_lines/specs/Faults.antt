@@ -4,7 +4,7 @@ use Rattle.std.specs.Option.{option_or}
 use Rattle.serde_json.specs.Data.{unsigned, Data, null, number, string, Members, no_members, member}
 use Rattle.serde_json.specs.Find.{get, as_object}
 use Rattle.hib_trace_lines.specs.Words.{word_of, operation_of, outcomes, members}
-use Rattle.hib_trace_lines.specs.Members.{member_name, text_at, whole_at, operation_at, rows_at}
+use Rattle.hib_trace_lines.specs.Members.{member_name, text_at, whole_at, operation_at, rows_at, tables_at}
 use Rattle.hib_trace_lines.specs.declared.events.Operation.{Operation}
 use Rattle.hib_trace_lines.specs.declared.faults.Member.{Member}
 use Rattle.hib_trace_lines.specs.declared.faults.Fault.{Fault}
@@ -89,7 +89,7 @@ abbrev pub word_faults : Data → List (Option Fault)
 word_faults d =
     fault_if (is_strange operation_of (text_at Member.Operation d)) (Fault.NotAWord Member.Operation) ∷
     fault_if (is_strange (word_of outcomes) (text_at Member.Outcome d)) (Fault.NotAWord Member.Outcome) ∷
-    fault_if (not (is_some (rows_at d))) Fault.NotRows ∷ []
+    fault_if (not (is_some (rows_at d))) Fault.NotRows ∷ fault_if (not (is_some (tables_at d))) Fault.NotTables ∷ []
 
 abbrev pub missing_faults : Data → List (Option Fault)
 missing_faults d =

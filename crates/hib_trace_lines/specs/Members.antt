@@ -46,28 +46,33 @@ row_with _ _ _ = None
 abbrev pub row_in : Data → Option RowText
 row_in d = row_with (option_and_then as_str (at 0 d)) (option_and_then as_u64 (option_and_then as_number (at 1 d))) (at 2 d)
 
-abbrev pub cons_row : Option RowText → Option (List RowText) → Option (List RowText)
-cons_row (Some r) (Some rs) = Some (r ∷ rs)
-cons_row _ _ = None
+abbrev pub cons_if : {A : Type 0} → Option A → Option (List A) → Option (List A)
+cons_if (Some x) (Some xs) = Some (x ∷ xs)
+cons_if _ _ = None
 
--- each of these is such a pair
-abbrev pub rows_in : Items → Option (List RowText)
-rows_in no_items = Some []
-rows_in (item d ds) = cons_row (row_in d) (rows_in ds)
+-- what each of these is, if each is something
+abbrev pub each_in : {A : Type 0} → (Data → Option A) → Items → Option (List A)
+each_in of no_items = Some []
+each_in of (item d ds) = cons_if (of d) (each_in of ds)
 
-abbrev pub rows_of : Option Data → Option (List RowText)
-rows_of None = Some []
-rows_of (Some null) = Some []
-rows_of (Some (array ds)) = rows_in ds
-rows_of (Some _) = None
+-- of nothing, of null, and of an array
+abbrev pub each_of : {A : Type 0} → (Data → Option A) → Option Data → Option (List A)
+each_of of None = Some []
+each_of of (Some null) = Some []
+each_of of (Some (array ds)) = each_in of ds
+each_of of (Some _) = None
 
 abbrev pub rows_at : Data → Option (List RowText)
-rows_at d = rows_of (get (member_name Member.Writes) d)
+rows_at d = each_of row_in (get (member_name Member.Writes) d)
+
+-- the tables that a list is of: texts
+abbrev pub tables_at : Data → Option (List (List ℕ))
+tables_at d = each_of as_str (get (member_name Member.Tables) d)
 
 -- ---- the event
 
-abbrev pub event_with : Option Operation → Option (List RowText) → Option ℕ → Option ℕ → Data → Option EventText
-event_with (Some operation) (Some writes) (Some begin) (Some end) d = Some (record {
+abbrev pub event_with : Option Operation → Option (List RowText) → Option (List (List ℕ)) → Option ℕ → Option ℕ → Data → Option EventText
+event_with (Some operation) (Some writes) (Some tables) (Some begin) (Some end) d = Some (record {
   operation = operation;
   session = text_at Member.Session d;
   transaction = text_at Member.Transaction d;
@@ -77,10 +82,11 @@ event_with (Some operation) (Some writes) (Some begin) (Some end) d = Some (reco
   base = text_at Member.Base d;
   outcome = outcome_at d;
   writes = writes;
+  tables = tables;
   begin = begin;
   end = end;
 })
-event_with _ _ _ _ d = None
+event_with _ _ _ _ _ d = None
 
 abbrev pub event_of : Data → Option EventText
-event_of d = event_with (operation_at d) (rows_at d) (whole_at Member.Begin d) (whole_at Member.End d) d
+event_of d = event_with (operation_at d) (rows_at d) (tables_at d) (whole_at Member.Begin d) (whole_at Member.End d) d

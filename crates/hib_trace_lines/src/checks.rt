@@ -12,7 +12,7 @@ ghost use Rattle.std.specs.Prelude.{◌≡◌, ◌&&◌, IfOk, is_some, not, opt
 
 use crate::events::Operation;
 use crate::faults::{Fault, Member};
-use crate::members::{operation_at, rows_at, text_at, whole_at};
+use crate::members::{operation_at, rows_at, tables_at, text_at, whole_at};
 use crate::words::{member_of, operation_of, outcome_of};
 use serde_json::{Map, Value};
 use std::alloc::{AllocError, Global};
@@ -101,17 +101,19 @@ fn has_strange_outcome(value: &Value) -> bool
     }
 }
 
-// A word that isn't known, and rows that are none.
+// A word that isn't known, and rows or tables that are none.
 fn word_fault(alloc: Global, value: &Value) -> Result<Option<Fault>, AllocError>
     ensures { IfOk result (λ o. o ≡ wrong.first_of (wrong.word_faults (view value.now))) }
 {
     let strange_operation = has_strange_operation(value);
     let strange_outcome = has_strange_outcome(value);
     let has_rows = rows_at(alloc, value)?.is_some();
+    let has_tables = tables_at(alloc, value)?.is_some();
     Ok(first_of(&[
         fault_if(strange_operation, Fault::NotAWord(Member::Operation)),
         fault_if(strange_outcome, Fault::NotAWord(Member::Outcome)),
         fault_if(!has_rows, Fault::NotRows),
+        fault_if(!has_tables, Fault::NotTables),
     ]))
 }
 

@@ -81,6 +81,8 @@ pub struct Event {
     pub outcome: Option<Outcome>,
     /// The rows that a commit says it made.
     pub writes: Vec<WrittenRow>,
+    /// The tables that a list is of.
+    pub tables: Vec<String>,
     /// When it began, in units of the trace's clock.
     pub begin: u64,
     /// When it had returned: not before it began.
@@ -105,6 +107,7 @@ impl Model for Event {
       base = option_map string_bytes e.base;
       outcome = e.outcome;
       writes = map row_text e.writes.items;
+      tables = map string_bytes e.tables.items;
       begin = e.begin;
       end = e.end;
     } };

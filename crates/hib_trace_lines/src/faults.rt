@@ -64,6 +64,8 @@ pub enum Fault {
     NotAWord(Member),
     /// The rows that a commit made aren't pairs of a key and a version.
     NotRows,
+    /// The tables of a list aren't texts.
+    NotTables,
     /// It had returned before it began.
     EndBeforeBegin,
 }

@@ -1,6 +1,7 @@
 // The members of a line's object, and the event that they are.
 ghost use Rattle.hib_trace_lines.specs.Members as members;
 ghost use Rattle.hib_trace_lines.specs.Rows.{row_text};
+ghost use Rattle.serde_json.specs.Find.{as_str};
 ghost use Rattle.serde_json.specs.View.{items_view, view};
 ghost use Rattle.std.specs.Option.{option_map};
 ghost use Rattle.std.specs.Prelude.{◌≡◌, IfOk, map, string_bytes};
@@ -74,7 +75,7 @@ fn row_of(alloc: Global, value: &Value) -> Result<Option<WrittenRow>, AllocError
 // The pairs that values are, if each is one.
 fn rows_in(alloc: Global, values: &Vec<Value>) -> Result<Option<Vec<WrittenRow>>, AllocError>
     ensures { IfOk result (λ o. option_map (λ v. map row_text v.items) o
-        ≡ members.rows_in (items_view values.now.items)) }
+        ≡ members.each_in members.row_in (items_view values.now.items)) }
 {
     let mut rows = Vec::new(alloc);
     for value in values {
@@ -99,6 +100,34 @@ pub fn rows_at(alloc: Global, value: &Value) -> Result<Option<Vec<WrittenRow>>, 
     }
 }
 
+// The texts that values are, if each is one.
+fn texts_in(alloc: Global, values: &Vec<Value>) -> Result<Option<Vec<String>>, AllocError>
+    ensures { IfOk result (λ o. option_map (λ v. map string_bytes v.items) o
+        ≡ members.each_in as_str (items_view values.now.items)) }
+{
+    let mut texts = Vec::new(alloc);
+    for value in values {
+        match value.as_str() {
+            Some(text) => texts.push(String::from_str(alloc, text)?)?,
+            None => return Ok(None),
+        }
+    }
+    Ok(Some(texts))
+}
+
+/// The tables that a list is of; none if they aren't texts.
+pub fn tables_at(alloc: Global, value: &Value) -> Result<Option<Vec<String>>, AllocError>
+    ensures { IfOk result (λ o. option_map (λ v. map string_bytes v.items) o
+        ≡ members.tables_at (view value.now)) }
+{
+    match value.get(Member::Tables.name()) {
+        None => Ok(Some(Vec::new(alloc))),
+        Some(Value::Null) => Ok(Some(Vec::new(alloc))),
+        Some(Value::Array(values)) => texts_in(alloc, values),
+        Some(_) => Ok(None),
+    }
+}
+
 /// The event that an object says, if it has what each event needs.
 pub fn event_of(alloc: Global, value: &Value) -> Result<Option<Event>, AllocError>
     ensures { IfOk result (λ o. o ≡ members.event_of (view value.now)) }
@@ -109,10 +138,11 @@ pub fn event_of(alloc: Global, value: &Value) -> Result<Option<Event>, AllocErro
     let row = owned_text(alloc, value, Member::Value)?;
     let base = owned_text(alloc, value, Member::Base)?;
     let writes = rows_at(alloc, value)?;
+    let tables = tables_at(alloc, value)?;
     let begin = whole_at(value, Member::Begin);
     let end = whole_at(value, Member::End);
-    match (operation_at(value), writes, begin, end) {
-        (Some(operation), Some(writes), Some(begin), Some(end)) => Ok(Some(Event {
+    match (operation_at(value), writes, tables, begin, end) {
+        (Some(operation), Some(writes), Some(tables), Some(begin), Some(end)) => Ok(Some(Event {
             operation,
             session,
             transaction,
@@ -122,6 +152,7 @@ pub fn event_of(alloc: Global, value: &Value) -> Result<Option<Event>, AllocErro
             base,
             outcome: outcome_at(value),
             writes,
+            tables,
             begin,
             end,
         })),
