@@ -5,8 +5,9 @@ use Rattle.std.specs.List.{All, AllZip}
 use Rattle.std.proofs.lemmas.Option.{slice_get_within}
 use Rattle.std.proofs.lemmas.List.{take_more, map-append}
 use Rattle.hib_trace_lines.specs.Events.{EventText, RowText}
-use Rattle.hib_trace_numbers.specs.Texts.{texts}
-use Rattle.hib_trace_calls.specs.Rows.{row_told}
+use Rattle.hib_trace_numbers.specs.Texts.{texts, IsApart, IsNamed}
+use Rattle.hib_trace_calls.specs.Rows.{row_told, table_told, value_told}
+use Rattle.std.specs.Option.{option_map}
 use Rattle.hib_trace_calls.specs.Numbers.{IsNamedIf, IsMade, IsCall, AreApart, Grows, AllGrow, IsBelow}
 use Rattle.hib_trace_calls.specs.declared.calls.Call.{Call}
 use Rattle.hib_trace_calls.specs.declared.calls.Made.{Made}
@@ -19,14 +20,20 @@ pub grows_on : (a b c : List (List ℕ)) → Grows a b → Grows b c → Grows a
 grows_on a b c g h = record { keeps = λ n t k. h.keeps n t (g.keeps n t k); apart = λ p. h.apart (g.apart p) }
 
 pub all_grow_none : (t : Texts) → AllGrow t t
-all_grow_none t = record { keys = grows_none (texts t.keys); transactions = grows_none (texts t.transactions); rows = grows_none (texts t.rows) }
+all_grow_none t = record { tables = grows_none (texts t.tables); sessions = grows_none (texts t.sessions); keys = grows_none (texts t.keys); transactions = grows_none (texts t.transactions); rows = grows_none (texts t.rows) }
 
 pub all_grow_on : (a b c : Texts) → AllGrow a b → AllGrow b c → AllGrow a c
 all_grow_on a b c g h = record {
+  tables = grows_on (texts a.tables) (texts b.tables) (texts c.tables) g.tables h.tables;
+  sessions = grows_on (texts a.sessions) (texts b.sessions) (texts c.sessions) g.sessions h.sessions;
   keys = grows_on (texts a.keys) (texts b.keys) (texts c.keys) g.keys h.keys;
   transactions = grows_on (texts a.transactions) (texts b.transactions) (texts c.transactions) g.transactions h.transactions;
   rows = grows_on (texts a.rows) (texts b.rows) (texts c.rows) g.rows h.rows;
 }
+
+none_named : (n : ℕ) (t : List ℕ) → IsNamed [] n t → ⊥
+none_named zero t p = cc
+none_named (suc n) t p = cc
 
 -- ---- pairs of lists
 
@@ -50,21 +57,33 @@ if_kept a b None (Some t) g i = i
 if_kept a b (Some n) None g i = i
 if_kept a b (Some n) (Some t) g i = g.keeps n t i
 
-pub made_kept : (j k r s : List (List ℕ)) (w : RowText) (m : Made) → Grows j k → Grows r s → IsMade j r w m → IsMade k s w m
-made_kept j k r s w m g h i = record { key = g.keeps m.key w.key i.key; row = h.keeps m.row _ i.row }
+pub made_kept : (t u : Texts) (w : RowText) (m : Made) → AllGrow t u → IsMade t w m → IsMade u w m
+made_kept t u w m g i = record {
+  key = g.keys.keeps m.key w.key i.key;
+  table = g.tables.keeps m.table _ i.table;
+  row = g.rows.keeps m.row _ i.row;
+  version = i.version;
+}
 
-pub all_made_kept : (j k r s : List (List ℕ)) (ws : List RowText) (ms : List Made) → Grows j k → Grows r s → AllZip (IsMade j r) ws ms →
-    AllZip (IsMade k s) ws ms
-all_made_kept j k r s ws ms g h = zip_map (IsMade j r) (IsMade k s) (λ w m. made_kept j k r s w m g h) ws ms
+pub all_made_kept : (t u : Texts) (ws : List RowText) (ms : List Made) → AllGrow t u → AllZip (IsMade t) ws ms → AllZip (IsMade u) ws ms
+all_made_kept t u ws ms g = zip_map (IsMade t) (IsMade u) (λ w m. made_kept t u w m g) ws ms
+
+pub each_kept : (a b : List (List ℕ)) (xs : List (List ℕ)) (ns : List ℕ) → Grows a b → AllZip (λ x n. IsNamed a n x) xs ns → AllZip (λ x n. IsNamed b n x) xs ns
+each_kept a b xs ns g = zip_map (λ x n. IsNamed a n x) (λ x n. IsNamed b n x) (λ x n. g.keeps n x) xs ns
 
 pub call_kept : (t u : Texts) (e : EventText) (c : Call) → AllGrow t u → IsCall t e c → IsCall u e c
 call_kept t u e c g i = record {
   operation = i.operation;
+  session = if_kept (texts t.sessions) (texts u.sessions) c.session e.session g.sessions i.session;
   transaction = if_kept (texts t.transactions) (texts u.transactions) c.transaction e.transaction g.transactions i.transaction;
   key = if_kept (texts t.keys) (texts u.keys) c.key e.key g.keys i.key;
   row = g.rows.keeps c.row (row_told e) i.row;
+  version = i.version;
+  base = if_kept (texts t.rows) (texts u.rows) c.base (option_map value_told e.base) g.rows i.base;
   outcome = i.outcome;
-  made = all_made_kept (texts t.keys) (texts u.keys) (texts t.rows) (texts u.rows) e.writes c.made.items g.keys g.rows i.made;
+  table = if_kept (texts t.tables) (texts u.tables) c.table (option_map table_told e.key) g.tables i.table;
+  made = all_made_kept t u e.writes c.made.items g i.made;
+  tables = each_kept (texts t.tables) (texts u.tables) e.tables c.tables.items g.tables i.tables;
   begin = i.begin;
   end = i.end;
 }
@@ -95,6 +114,18 @@ transactions_below t es cs =
     zip_all (IsCall t) (λ c. IsBelow (length (texts t.transactions)) c.transaction)
     (λ e c i. named_below (texts t.transactions) c.transaction e.transaction i.transaction) es cs
 
+pub sessions_below : (t : Texts) (es : List EventText) (cs : List Call) → AllZip (IsCall t) es cs →
+    All (λ c. IsBelow (length (texts t.sessions)) c.session) cs
+sessions_below t es cs =
+    zip_all (IsCall t) (λ c. IsBelow (length (texts t.sessions)) c.session)
+    (λ e c i. named_below (texts t.sessions) c.session e.session i.session) es cs
+
+pub tables_below : (t : Texts) (es : List EventText) (cs : List Call) → AllZip (IsCall t) es cs →
+    All (λ c. IsBelow (length (texts t.tables)) c.table) cs
+tables_below t es cs =
+    zip_all (IsCall t) (λ c. IsBelow (length (texts t.tables)) c.table)
+    (λ e c i. named_below (texts t.tables) c.table (option_map table_told e.key) i.table) es cs
+
 -- ---- one more pair
 
 pub zip_step : {A B : Type 0} (R : A → B → Type 0) (xs : List A) (ys zs : List B) (i : ℕ) (x : A) (y : B) → i < length xs → x ≡ get_or xs i x →
@@ -110,8 +141,13 @@ zip_map_step g R xs ys zs i x y l e p r f =
     (sym (ap (map g) (take_more xs i x l ∙ ap (λ u. take i xs ++ u ∷ []) (sym e)) ∙ map-append g (take i xs) (x ∷ [])))
     (subst (AllZip R (map g (take i xs) ++ g x ∷ [])) (sym f) (zip_push R (map g (take i xs)) ys (g x) y p r))
 
+pub none_apart : (ts : List (List ℕ)) → ts ≡ [] → IsApart ts
+none_apart ts e = subst IsApart (sym e) (λ m n t p q. absurd (none_named n t q))
+
 pub apart_on : (t u : Texts) → AllGrow t u → AreApart t → AreApart u
 apart_on t u g a = record {
+  tables = g.tables.apart a.tables;
+  sessions = g.sessions.apart a.sessions;
   keys = g.keys.apart a.keys;
   transactions = g.transactions.apart a.transactions;
   rows = g.rows.apart a.rows;

@@ -1,6 +1,6 @@
 -- Which writes a trace tells, and what became of each.
 use Rattle.std.specs.Prelude.{ℕ, Bool, false, List, [], ◌∷◌, Option, Some, None, nat_eq, map, if◌then◌else◌}
-use Rattle.std.specs.Option.{option_to_list, option_map}
+use Rattle.std.specs.Option.{option_to_list}
 use Rattle.std.specs.List.{filter_map, flat_map}
 use Rattle.hib_trace_lines.specs.declared.events.Operation.{Operation}
 use Rattle.hib_trace_lines.specs.declared.events.Outcome.{Outcome}
@@ -48,15 +48,37 @@ fate_of cs (Some t) = only (filter_map (end_of t) cs)
 -- the write of a row that a commit names
 abbrev pub made_write : Call → Made → Write
 made_write c m =
-    record { transaction = c.transaction; key = m.key; row = m.row; begin = c.begin; fate = fate_by c.outcome (span_of c) }
+    record {
+      transaction = c.transaction;
+      key = m.key;
+      table = m.table;
+      row = m.row;
+      version = Some m.version;
+      begin = c.begin;
+      end = c.end;
+      fate = fate_by c.outcome (span_of c);
+    }
 
-abbrev pub row_write : Fate → Call → ℕ → Write
-row_write f c k = record { transaction = c.transaction; key = k; row = c.row; begin = c.begin; fate = f }
+abbrev pub row_write : Fate → Call → ℕ → ℕ → Write
+row_write f c k t = record {
+  transaction = c.transaction;
+  key = k;
+  table = t;
+  row = c.row;
+  version = c.version;
+  begin = c.begin;
+  end = c.end;
+  fate = f;
+}
+
+abbrev pub row_write_if : Fate → Call → Option ℕ → Option ℕ → Option Write
+row_write_if f c (Some k) (Some t) = Some (row_write f c k t)
+row_write_if f c _ _ = None
 
 -- the writes of a line: of a write its row, which ends as its transaction does, and of a commit the rows that it names,
 -- which end as it does
 abbrev pub writes_by : Operation → Fate → Call → List Write
-writes_by Operation.Write f c = option_to_list (option_map (row_write f c) c.key)
+writes_by Operation.Write f c = option_to_list (row_write_if f c c.key c.table)
 writes_by Operation.Commit f c = map (made_write c) c.made.items
 writes_by _ f c = []
 

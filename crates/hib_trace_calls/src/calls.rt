@@ -2,11 +2,15 @@
 use hib_trace_lines::{Operation, Outcome};
 use hib_trace_numbers::Names;
 
-/// The texts that have numbers: keys, transactions, and rows as a report tells them.
+/// The texts that have numbers: sessions, keys, tables, transactions, and rows as a report tells them.
 #[derive(Drop)]
 pub struct Texts {
+    /// The sessions.
+    pub sessions: Names,
     /// The keys.
     pub keys: Names,
+    /// The tables.
+    pub tables: Names,
     /// The transactions.
     pub transactions: Names,
     /// The rows.
@@ -18,8 +22,12 @@ pub struct Texts {
 pub struct Made {
     /// The number of its key.
     pub key: usize,
+    /// The number of the table that the key is of.
+    pub table: usize,
     /// The number of the row.
     pub row: usize,
+    /// The row's version.
+    pub version: u64,
 }
 
 /// A line of a trace.
@@ -27,16 +35,26 @@ pub struct Made {
 pub struct Call {
     /// What it was for.
     pub operation: Operation,
+    /// The number of the session that made it, if that is told.
+    pub session: Option<usize>,
     /// The number of its transaction, if that is told.
     pub transaction: Option<usize>,
     /// The number of the key, if it is about one.
     pub key: Option<usize>,
+    /// The number of the table that the key is of, if it is about one.
+    pub table: Option<usize>,
     /// The number of the row.
     pub row: usize,
+    /// The row's version, if that is told.
+    pub version: Option<u64>,
+    /// The number of the row that a write rests on, if that is told.
+    pub base: Option<usize>,
     /// How it ended, if that is told.
     pub outcome: Option<Outcome>,
     /// The rows that a commit says it made.
     pub made: Vec<Made>,
+    /// The numbers of the tables that a list is of.
+    pub tables: Vec<usize>,
     /// When it began, in units of the trace's clock.
     pub begin: u64,
     /// When it had returned.
@@ -50,6 +68,8 @@ pub struct Trace {
     pub calls: Vec<Call>,
     /// The texts that their numbers stand for.
     pub texts: Texts,
+    /// The number of the row that is told if there is none.
+    pub none: usize,
 }
 
 /// From when a call lasted until when, in units of the trace's clock.
@@ -79,10 +99,16 @@ pub struct Write {
     pub transaction: Option<usize>,
     /// The number of the key.
     pub key: usize,
+    /// The number of the table that the key is of.
+    pub table: usize,
     /// The number of the row.
     pub row: usize,
+    /// The row's version, if that is told.
+    pub version: Option<u64>,
     /// When the write began.
     pub begin: u64,
+    /// When the write had returned.
+    pub end: u64,
     /// What became of it.
     pub fate: Fate,
 }

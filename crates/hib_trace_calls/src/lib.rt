@@ -11,4 +11,4 @@ pub use calls::{Call, Fate, Made, Span, Texts, Trace, Write};
 pub use fates::{fate_at, fates_in};
 pub use numbers::numbered;
 pub use rows::row_text;
-pub use writes::writes_in;
+pub use writes::{write_of, writes_in};

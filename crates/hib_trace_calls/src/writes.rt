@@ -1,6 +1,6 @@
 // The writes of a trace.
 ghost use Rattle.hib_trace_calls.specs.Numbers.{IsBelow};
-ghost use Rattle.hib_trace_calls.specs.Writes.{writes_of, writes_with, made_write};
+ghost use Rattle.hib_trace_calls.specs.Writes.{made_write, row_write_if, writes_of, writes_with};
 ghost use Rattle.std.specs.List.{All};
 ghost use Rattle.std.specs.Prelude.{◌≡◌, ◌++◌, IfOk, OnOk, map};
 
@@ -17,12 +17,34 @@ fn put_made(out: &mut Vec<Write>, call: &Call) -> Result<(), AllocError>
         out.push(Write {
             transaction: call.transaction,
             key: made.key,
+            table: made.table,
             row: made.row,
+            version: Some(made.version),
             begin: call.begin,
+            end: call.end,
             fate: fate_by(call.outcome, span_of(call)),
         })?;
     }
     Ok(())
+}
+
+/// The write of a row that a line tells, if it came to this.
+pub fn write_of(call: &Call, fate: Fate) -> Option<Write>
+    ensures { result ≡ row_write_if fate call.now call.now.key call.now.table }
+{
+    match (call.key, call.table) {
+        (Some(key), Some(table)) => Some(Write {
+            transaction: call.transaction,
+            key,
+            table,
+            row: call.row,
+            version: call.version,
+            begin: call.begin,
+            end: call.end,
+            fate,
+        }),
+        _ => None,
+    }
 }
 
 // Adds the writes of a line, if its transaction's writes have this fate.
@@ -31,14 +53,8 @@ fn put_writes(out: &mut Vec<Write>, call: &Call, fate: Fate) -> Result<(), Alloc
 {
     match call.operation {
         Operation::Write => {
-            if let Some(key) = call.key {
-                out.push(Write {
-                    transaction: call.transaction,
-                    key,
-                    row: call.row,
-                    begin: call.begin,
-                    fate,
-                })?;
+            if let Some(write) = write_of(call, fate) {
+                out.push(write)?;
             }
             Ok(())
         }
