@@ -126,6 +126,13 @@ tables_below t es cs =
     zip_all (IsCall t) (λ c. IsBelow (length (texts t.tables)) c.table)
     (λ e c i. named_below (texts t.tables) c.table (option_map table_told e.key) i.table) es cs
 
+pub lists_below : (t : Texts) (es : List EventText) (cs : List Call) → AllZip (IsCall t) es cs →
+    All (λ c. All (λ n. n < length (texts t.tables)) c.tables.items) cs
+lists_below t es cs =
+    zip_all (IsCall t) (λ c. All (λ n. n < length (texts t.tables)) c.tables.items)
+    (λ e c i. zip_all (λ x n. IsNamed (texts t.tables) n x) (λ n. n < length (texts t.tables)) (λ x n h. slice_get_within (texts t.tables) n x h)
+    e.tables c.tables.items i.tables) es cs
+
 -- ---- one more pair
 
 pub zip_step : {A B : Type 0} (R : A → B → Type 0) (xs : List A) (ys zs : List B) (i : ℕ) (x : A) (y : B) → i < length xs → x ≡ get_or xs i x →

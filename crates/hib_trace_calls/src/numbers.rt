@@ -4,7 +4,7 @@ ghost use Rattle.hib_trace_calls.specs.Rows.{no_row, row_told, table_told, value
 ghost use Rattle.hib_trace_lines.specs.Rows.{row_text};
 ghost use Rattle.hib_trace_numbers.specs.Texts.{IsNamed, texts};
 ghost use Rattle.std.specs.List.{All, AllZip};
-ghost use Rattle.std.specs.Prelude.{◌≡◌, [], IfOk, OnOk, length, map, option_map, string_bytes};
+ghost use Rattle.std.specs.Prelude.{◌≡◌, ◌<◌, [], IfOk, OnOk, length, map, option_map, string_bytes};
 
 use crate::calls::{Call, Made, Texts, Trace};
 use crate::rows::{NO_ROW, row_text, table_name, value_text, version_text};
@@ -163,6 +163,7 @@ pub fn numbered(alloc: Global, events: &[Event]) -> Result<Trace, AllocError>
     ensures none { IfOk result (λ t. IsNamed (texts t.texts.rows) t.none no_row) }
     ensures keys { IfOk result (λ t. All (λ c. IsBelow (length (texts t.texts.keys)) c.key) t.calls.items) }
     ensures tables { IfOk result (λ t. All (λ c. IsBelow (length (texts t.texts.tables)) c.table) t.calls.items) }
+    ensures lists { IfOk result (λ t. All (λ c. All (λ n. n < length (texts t.texts.tables)) c.tables.items) t.calls.items) }
     ensures sessions { IfOk result (λ t. All (λ c. IsBelow (length (texts t.texts.sessions)) c.session) t.calls.items) }
     ensures transactions { IfOk result (λ t.
         All (λ c. IsBelow (length (texts t.texts.transactions)) c.transaction) t.calls.items) }

@@ -1,7 +1,7 @@
 use Rattle.std.proofs.Common.{rules}
 use Rattle.hib_trace_calls.specs.Numbers.{IsCall}
 use Rattle.hib_trace_calls.specs.Rows.{no_row}
-use Rattle.hib_trace_calls.proofs.Grown.{apart_on, calls_kept, keys_below, none_apart, sessions_below, tables_below, transactions_below, zip_step}
+use Rattle.hib_trace_calls.proofs.Grown.{apart_on, calls_kept, keys_below, lists_below, none_apart, sessions_below, tables_below, transactions_below, zip_step}
 use Rattle.hib_trace_calls.proofs.numbers.numbered.Goals as goal
 
 pub loop-event-init : goal.loop-event-init
@@ -41,3 +41,6 @@ returns-clause-sessions c = sessions_below c.loop-event.texts _ c.loop-event.cal
 
 pub returns-clause-tables : goal.returns-clause-tables
 returns-clause-tables c = tables_below c.loop-event.texts _ c.loop-event.calls.items c.loop-event.invariant.calls
+
+pub returns-clause-lists : goal.returns-clause-lists
+returns-clause-lists c = lists_below c.loop-event.texts _ c.loop-event.calls.items c.loop-event.invariant.calls
