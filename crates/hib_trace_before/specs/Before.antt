@@ -38,10 +38,12 @@ first (r ∷ rs) = Some r
 abbrev pub row_before : ℕ → List Call → List Write → ℕ → Option ℕ
 row_before clock cs ws k = first (filter_map (early_row clock ws k) cs)
 
--- it counts as written at the clock's 0
+-- it counts as written at the clock's 0; no list is judged by it, so its table doesn't matter
 abbrev pub write_before : ℕ → ℕ → Write
 write_before k r =
-    record { transaction = None; key = k; row = r; begin = 0; fate = Fate.Committed (record { begin = 0; end = 0 }) }
+    record {
+      transaction = None; key = k; table = 0; row = r; version = None;
+      begin = 0; end = 0; fate = Fate.Committed (record { begin = 0; end = 0 }) }
 
 -- the rows that the first n keys had
 abbrev pub before_of : ℕ → List Call → List Write → ℕ → List Write

@@ -67,15 +67,18 @@ fn rows_of(
     Ok(rows)
 }
 
-// A row that a key had, as a write that was committed at the clock's 0.
+// A row that a key had, as a write that was committed at the clock's 0. No list is judged by it, so its table doesn't matter.
 fn write_before(key: usize, row: usize) -> Write
     ensures { result ≡ before.write_before key row }
 {
     Write {
         transaction: None,
         key,
+        table: 0,
         row,
+        version: None,
         begin: 0,
+        end: 0,
         fate: Fate::Committed(Span { begin: 0, end: 0 }),
     }
 }

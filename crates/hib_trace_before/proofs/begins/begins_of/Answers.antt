@@ -11,6 +11,6 @@ loop-write-preserved c =
     record {
       count = c.note_begin.ensures.count ∙ c.loop-write.invariant.count;
       begins = begins_step c.args.writes.now c.loop-write.write-index
-          (record { transaction = None; key = 0; row = 0; begin = 0; fate = Fate.Open }) b.items d.items c.loop-write-test.true n
+          (record { transaction = None; key = 0; table = 0; row = 0; version = None; begin = 0; end = 0; fate = Fate.Open }) b.items d.items c.loop-write-test.true n
           c.loop-write.invariant.begins (λ k t l. c.note_begin.ensures.each k t (omega (arith, l, b.ok.0)));
     }
