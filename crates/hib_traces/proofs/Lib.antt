@@ -1,5 +1,9 @@
 mod Steps
 mod Orders
 mod Olds
-mod Joined
-pub mod Alike
+mod Certain
+mod Searches
+mod Stood
+mod Told
+mod Kept
+mod Sorted

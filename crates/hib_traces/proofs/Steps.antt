@@ -107,6 +107,41 @@ near_enough s n k d e limit f p q l =
     let r : (get_or s n d).at ≤ limit = subst (λ (m : Mark). m.at ≤ limit) (get_or_default s n e d (omega (arith, q, l))) p in
     omega (arith, g, r)
 
+pub high_enough : (s : List Mark) (n k : ℕ) (d e : Mark) (limit : ℕ) → IsStairs s → n < length s → limit ≤ (get_or s n e).value → k < n + 1 → limit ≤ (get_or s k d).value
+high_enough s n k d e limit f l p q =
+    let g : (get_or s n d).value ≤ (get_or s k d).value = f.value k n d (omega (arith, q)) l in
+    let r : limit ≤ (get_or s n d).value = subst (λ (m : Mark). limit ≤ m.value) (get_or_default s n e d l) p in
+    omega (arith, g, r)
+
+pub low_enough : (s : List Mark) (n k : ℕ) (d e : Mark) (limit : ℕ) → IsStairs s → (get_or s n e).value < limit → n ≤ k → k < length s → (get_or s k d).value < limit
+low_enough s n k d e limit f p q l =
+    let g : (get_or s k d).value ≤ (get_or s n d).value = f.value n k d q l in
+    let r : (get_or s n d).value < limit = subst (λ (m : Mark). m.value < limit) (get_or_default s n e d (omega (arith, q, l))) p in
+    omega (arith, g, r)
+
+-- of the marks with numbers below a limit the first one lies furthest
+pub none_below : (ms : List Mark) (k t : ℕ) → ((i : ℕ) (d : Mark) → i < length ms → t ≤ (get_or ms i d).value) → asks k t ms ≡ false
+none_below ms k t f = list_any_none (λ (n : Mark). nat_lt k n.at && nat_lt n.value t) ms
+    (λ i d l. and_right (nat_lt k (get_or ms i d).at) (nat_lt (get_or ms i d).value t) (le-ltb (get_or ms i d).value t (f i d l)))
+
+pub first_below : (ms : List Mark) (k t n : ℕ) (e : Mark) → IsStairs ms → n < length ms → ((i : ℕ) (d : Mark) → i < n → t ≤ (get_or ms i d).value) →
+    ((i : ℕ) (d : Mark) → n ≤ i → i < length ms → (get_or ms i d).value < t) → asks k t ms ≡ nat_lt k (get_or ms n e).at
+first_below ms k t n e s l f g = by (nat_lt k (get_or ms n e).at) refl
+  where
+    miss : nat_lt k (get_or ms n e).at ≡ false → (i : ℕ) (d : Mark) → i < length ms → (nat_lt k (get_or ms i d).at && nat_lt (get_or ms i d).value t) ≡ false
+    miss q i d m = elim (cases_lt i n) [
+      | inl r ↦ and_right (nat_lt k (get_or ms i d).at) (nat_lt (get_or ms i d).value t) (le-ltb (get_or ms i d).value t (f i d r))
+      | inr r ↦ let w : (get_or ms n e).at ≤ k = ltb-false k (get_or ms n e).at q in
+          let y : (get_or ms i d).at ≤ (get_or ms n d).at = s.at n i d r m in
+          let x : (get_or ms n d).at ≤ k = subst (λ (a : Mark). a.at ≤ k) (get_or_default ms n e d l) w in
+          and_left (nat_lt k (get_or ms i d).at) (nat_lt (get_or ms i d).value t) (le-ltb k (get_or ms i d).at (omega (arith, x, y)))
+    ]
+
+    by : (b : Bool) → nat_lt k (get_or ms n e).at ≡ b → asks k t ms ≡ b
+    by true q = list_any_at (λ (x : Mark). nat_lt k x.at && nat_lt x.value t) ms n e l
+        (and_from (nat_lt k (get_or ms n e).at) (nat_lt (get_or ms n e).value t) q (lt-ltb (get_or ms n e).value t (g n e (omega arith) l)))
+    by false q = list_any_none (λ (x : Mark). nat_lt k x.at && nat_lt x.value t) ms (miss q)
+
 -- how far the stairs have come
 pub record IsStepped (xs : List Mark) (i : ℕ) (ms : List Mark) : Type 0 where
   pub same : (k t : ℕ) → asks k t ms ≡ asks k t (take i xs)

@@ -1,3 +1,5 @@
+pub mod Making
 pub mod Marks
+pub mod Places
 pub mod Stands
 pub mod Verdicts

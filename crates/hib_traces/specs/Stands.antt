@@ -1,22 +1,22 @@
 -- What the judge remembers of the commits of a key.
 use Rattle.std.specs.Prelude.{◌≡◌, ◌&&◌, ℕ, Some, nat_lt}
 use Rattle.std.specs.List.{list_any}
-use Rattle.std.specs.List.Sorted.{IsNonDecreasingBy}
-use Rattle.hib_trace_law.specs.declared.commits.Commit.{Commit}
 use Rattle.hib_trace_law.specs.Certain.{ended_before, is_lower}
 use Rattle.hib_traces.specs.declared.order.Order.{Order}
 use Rattle.hib_traces.specs.Marks.{asks, IsStairs, known_version}
+use Rattle.hib_traces.specs.Places.{ArePlaces}
 
-abbrev pub row_of : Commit → ℕ
-row_of c = c.row
-
--- a judge's memory stands for its commits: it knows the least end of those that began after an instant, and of those with a higher version, and
--- the least version of those that began after an instant
-pub record Stands (o : Order) : Type 0 where
+-- the judge knows the least end of the commits that began after an instant, and of those with a higher version, and the greatest begin of those
+-- with a lower version
+pub record Remembers (o : Order) : Type 0 where
   pub calls : (k t : ℕ) → asks k t o.calls.items ≡ list_any (λ d. nat_lt k d.begin && ended_before d.end t) o.commits.items
   pub versions : (k t : ℕ) → asks k t o.versions.items ≡ list_any (λ d. is_lower (Some k) d.version && ended_before d.end t) o.commits.items
   pub begins : (k t : ℕ) → asks k t o.begins.items ≡ list_any (λ d. nat_lt k d.begin && ended_before (known_version d.end d.version) t) o.commits.items
-  pub rows : IsNonDecreasingBy row_of o.commits.items
   pub calls_fall : IsStairs o.calls.items
   pub versions_fall : IsStairs o.versions.items
   pub begins_fall : IsStairs o.begins.items
+
+-- it stands for its commits: it remembers them, and has their places
+pub record Stands (o : Order) : Type 0 where
+  pub remembers : Remembers o
+  pub places : ArePlaces o.commits.items o.commits.items o.places.items

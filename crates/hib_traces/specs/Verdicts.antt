@@ -1,5 +1,5 @@
 -- What a judge says of an answer.
-use Rattle.std.specs.Prelude.{◌≡◌, ◌<◌, ◌+◌, ◌&&◌, ℕ, Bool, true, false, not, Option, None, Some, List, nat_eq, nat_lt, if◌then◌else◌}
+use Rattle.std.specs.Prelude.{◌≡◌, ◌<◌, ◌+◌, ◌&&◌, ℕ, Bool, true, false, not, Option, None, Some, List, nat_eq}
 use Rattle.std.specs.List.{list_any}
 use Rattle.hib_trace_law.specs.declared.commits.Commit.{Commit}
 use Rattle.hib_trace_law.specs.declared.commits.Answer.{Answer}
@@ -37,16 +37,3 @@ IsVerdict cs a ps New = IsNew cs a ps
 abbrev pub is_contradicted : List Commit → Option ℕ → ℕ → Bool
 is_contradicted cs None t = false
 is_contradicted cs (Some v) t = list_any (λ d. is_lower (Some v) d.version && ended_before d.end t) cs
-
--- the verdict of two lists of places together
-abbrev pub joined : Verdict → Verdict → Verdict
-joined Unknown w = w
-joined Possible w = Possible
-joined New Unknown = New
-joined New Possible = Possible
-joined New (Old t) = Old t
-joined New New = New
-joined (Old t) Unknown = Old t
-joined (Old t) Possible = Possible
-joined (Old t) (Old u) = Old (if nat_lt t u then u else t)
-joined (Old t) New = Old t

@@ -3,7 +3,7 @@ ghost use Rattle.hib_trace_law.specs.Certain.{ended_before};
 ghost use Rattle.hib_traces.specs.Marks.{IsStairs, asks, far_of, is_lowest};
 ghost use Rattle.std.specs.List.Sorted.{IsNonDecreasingBy};
 ghost use Rattle.std.specs.List.{slice_index_or};
-ghost use Rattle.std.specs.Prelude.{◌≡◌, ◌<◌, ◌≤◌, ◌||◌, ◌^◌, ℕ, IfOk, length};
+ghost use Rattle.std.specs.Prelude.{◌≡◌, ◌<◌, ◌≤◌, ◌||◌, ◌^◌, ℕ, IfOk, length, nat_lt};
 
 use std::alloc::{AllocError, Global};
 
@@ -75,6 +75,39 @@ pub fn least_beyond(steps: &[Mark], limit: u64) -> Option<u64>
         None
     } else {
         Some(steps[count - 1].value)
+    }
+}
+
+// How many of the marks have a number that isn't below a limit.
+fn count_above(steps: &[Mark], limit: u64) -> usize
+    requires falls { IsStairs steps.now }
+    ensures bound { result ≤ length steps.now }
+    ensures above { (k : ℕ) (d : Mark) → k < result → limit ≤ (slice_index_or steps.now k d).value }
+    ensures below { (k : ℕ) (d : Mark) → result ≤ k → k < length steps.now → (slice_index_or steps.now k d).value < limit }
+{
+    let mut low = 0;
+    let mut high = steps.len();
+    while low < high {
+        let middle = low + (high - low) / 2;
+        if limit <= steps[middle].value {
+            low = middle + 1;
+        } else {
+            high = middle;
+        }
+    }
+    low
+}
+
+/// The place of the furthest one of those with a number below a limit; 0 if there is none.
+pub fn furthest_below(steps: &[Mark], limit: u64) -> u64
+    requires falls { IsStairs steps.now }
+    ensures { (k : ℕ) → asks k limit steps.now ≡ nat_lt k result }
+{
+    let count = count_above(steps, limit);
+    if count < steps.len() {
+        steps[count].at
+    } else {
+        0
     }
 }
 

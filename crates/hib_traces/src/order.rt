@@ -1,12 +1,13 @@
 //! What a judge remembers of the commits of a key.
 ghost use Rattle.hib_traces.specs.Marks.{IsStairs, asks, known_version, pair_mark};
-ghost use Rattle.hib_traces.specs.Stands.{Stands, row_of};
-ghost use Rattle.std.specs.List.Sorted.{IsNonDecreasingBy, IsPermutation};
-ghost use Rattle.std.specs.List.{filter_map};
+ghost use Rattle.hib_traces.specs.Stands.{Remembers, Stands};
+ghost use Rattle.hib_trace_law.specs.Certain.{ended_before};
+ghost use Rattle.std.specs.List.{filter_map, list_any};
 ghost use Rattle.std.specs.Option.{option_to_list};
-ghost use Rattle.std.specs.Prelude.{◌≡◌, ◌++◌, ℕ, IfOk, OnOk, Some};
+ghost use Rattle.std.specs.Prelude.{◌≡◌, ◌&&◌, ◌++◌, ℕ, IfOk, OnOk, Some, nat_lt};
 
 use crate::marks::{Mark, stairs};
+use crate::places::{Place, places_of};
 use hib_trace_law::Commit;
 use std::alloc::{AllocError, Global};
 
@@ -21,6 +22,8 @@ pub struct Order {
     pub versions: Vec<Mark>,
     /// Versions at begins.
     pub begins: Vec<Mark>,
+    /// When an answer may be the row of one of the commits.
+    pub places: Vec<Place>,
 }
 
 // A mark of two numbers, if both are there.
@@ -99,23 +102,21 @@ fn sorted_stairs(alloc: Global, marks: Vec<Mark>) -> Result<Vec<Mark>, AllocErro
     stairs(alloc, &sorted)
 }
 
-// Commits in the order of their rows.
-fn by_rows(commits: Vec<Commit>) -> Result<Vec<Commit>, AllocError>
-    ensures same { IfOk result (λ v. IsPermutation commits.items v.items) }
-    ensures rows { IfOk result (λ v. IsNonDecreasingBy row_of v.items) }
+/// The ends of commits at their begins, as far as they matter.
+pub fn call_stairs(alloc: Global, commits: &[Commit]) -> Result<Vec<Mark>, AllocError>
+    ensures tell { IfOk result (λ v. (k t : ℕ) → asks k t v.items
+        ≡ list_any (λ d. nat_lt k d.begin && ended_before d.end t) commits.now) }
+    ensures falls { IfOk result (λ v. IsStairs v.items) }
 {
-    let mut sorted = commits;
-    sorted.sort_by_key(|commit| commit.row)?;
-    Ok(sorted)
+    sorted_stairs(alloc, call_marks(alloc, commits)?)
 }
 
-/// The commits of a key, made ready.
-pub fn order_of(alloc: Global, commits: Vec<Commit>) -> Result<Order, AllocError>
-    ensures commits { IfOk result (λ o. IsPermutation commits.items o.commits.items) }
-    ensures stands { IfOk result Stands }
+// What a judge remembers of the times of the commits; the places are still missing.
+fn memory_of(alloc: Global, commits: Vec<Commit>) -> Result<Order, AllocError>
+    ensures commits { IfOk result (λ o. o.commits.items ≡ commits.items) }
+    ensures remembers { IfOk result Remembers }
 {
-    let commits = by_rows(commits)?;
-    let calls = sorted_stairs(alloc, call_marks(alloc, &commits)?)?;
+    let calls = call_stairs(alloc, &commits)?;
     let versions = sorted_stairs(alloc, version_marks(alloc, &commits)?)?;
     let begins = sorted_stairs(alloc, begin_marks(alloc, &commits)?)?;
     Ok(Order {
@@ -123,5 +124,16 @@ pub fn order_of(alloc: Global, commits: Vec<Commit>) -> Result<Order, AllocError
         calls,
         versions,
         begins,
+        places: Vec::new(alloc),
     })
+}
+
+/// The commits of a key, made ready.
+pub fn order_of(alloc: Global, commits: Vec<Commit>) -> Result<Order, AllocError>
+    ensures commits { IfOk result (λ o. o.commits.items ≡ commits.items) }
+    ensures stands { IfOk result Stands }
+{
+    let mut order = memory_of(alloc, commits)?;
+    order.places = places_of(alloc, &order, &order.commits)?;
+    Ok(order)
 }

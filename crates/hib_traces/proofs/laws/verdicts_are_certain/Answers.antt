@@ -1,4 +1,4 @@
-use Rattle.hib_traces.proofs.Alike.{old_is_false, new_is_false}
+use Rattle.hib_traces.proofs.Certain.{old_is_false, new_is_false}
 use Rattle.hib_traces.proofs.laws.verdicts_are_certain.Goals as goal
 
 pub returns : goal.returns
