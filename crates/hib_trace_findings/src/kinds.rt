@@ -1,16 +1,29 @@
 // The judgements.
 
-/// What is said of an answer of a cache.
+/// What is said of a line of a trace.
 #[derive(Clone, Copy, Debug, PartialEq, Eq)]
 pub enum Judgement {
-    /// No write of the trace made its row, or it may be the one from before the trace.
+    /// Of an answer: no write of the trace made its row, or it may be the one from before the trace.
     Unknown,
-    /// It may be right.
+    /// Of an answer: it may be right.
     Possible,
-    /// Its row had been replaced by this instant at the latest, before the answer's window began.
+    /// Of an answer: its row had been replaced by this instant at the latest, before the answer's window began.
     Stale(u64),
-    /// Its row was committed after the answer had ended.
+    /// Of an answer: the same, and for certain there was no row any more.
+    Resurrected(u64),
+    /// Of an answer: its row was committed after the answer had ended.
     Dirty,
-    /// Its row was written by transactions that were rolled back, and by no others.
+    /// Of an answer: its row was written by transactions that were rolled back, and by no others.
     RolledBack,
+    /// Of an answer: it may be right, and so may an earlier one of its session, which was of a newer row.
+    WentBack,
+    /// Of a write: the row that it rests on had been replaced before its commit began.
+    LostUpdate,
+    /// Of a write or a commit: the order of its key says that a commit that had ended before came after it.
+    Contradicted,
+    /// Of a list: whether it was computed before a commit isn't known.
+    OpenList,
+    /// Of a list: it was computed before a commit on one of its tables that had ended by this instant, before the list was
+    /// asked for.
+    OldList(u64),
 }
