@@ -14,26 +14,27 @@ use Rattle.hib_traces.specs.declared.order.Order.{Order}
 use Rattle.hib_trace_filed.specs.Orders.{IsOrderOf, AreOrders}
 use Rattle.hib_trace_filed.specs.Own.{is_own, own_written, has_own}
 use Rattle.hib_trace_filed.specs.declared.own.Owns.{Owns}
-use Rattle.hib_trace_filed.specs.Keys.{at_key, IsFiled}
+use Rattle.hib_trace_filed.specs.Keys.{number_by, of_number, IsFiled}
+use Rattle.hib_trace_filed.specs.declared.commits.By.{By}
 
 one_of : (o : Option Commit) → option_to_list o ≡ cons_option o []
 one_of None = refl
 one_of (Some c) = refl
 
-file_push : (f : Write → Option Commit) (ws : List Write) (w : Write) (fs gs : List (Vec Commit Global)) (o : Option Commit) → length gs ≡ length fs →
-    IsFiled f ws fs → o ≡ f w → ((k : ℕ) (d : Vec Commit Global) → k < length fs →
-    (get_or gs k d).items ≡ (get_or fs k d).items ++ option_to_list (if nat_eq w.key k then o else None)) → IsFiled f (ws ++ w ∷ []) gs
-file_push f ws w fs gs o n p e each k d l =
+file_push : (by : By) (f : Write → Option Commit) (ws : List Write) (w : Write) (fs gs : List (Vec Commit Global)) (o : Option Commit) → length gs ≡ length fs →
+    IsFiled by f ws fs → o ≡ f w → ((k : ℕ) (d : Vec Commit Global) → k < length fs →
+    (get_or gs k d).items ≡ (get_or fs k d).items ++ option_to_list (if nat_eq (number_by by w) k then o else None)) → IsFiled by f (ws ++ w ∷ []) gs
+file_push by f ws w fs gs o n p e each k d l =
     let m : k < length fs = omega (arith, l, n) in
-    each k d m ∙ ap (λ c. (get_or fs k d).items ++ option_to_list (if nat_eq w.key k then c else None)) e
-    ∙ ap (λ cs. cs ++ option_to_list (at_key f k w)) (p k d m) ∙ ap (λ cs. filter_map (at_key f k) ws ++ cs) (one_of (at_key f k w))
-    ∙ sym (filter_map-append (at_key f k) ws (w ∷ []))
+    each k d m ∙ ap (λ c. (get_or fs k d).items ++ option_to_list (if nat_eq (number_by by w) k then c else None)) e
+    ∙ ap (λ cs. cs ++ option_to_list (of_number by f k w)) (p k d m) ∙ ap (λ cs. filter_map (of_number by f k) ws ++ cs) (one_of (of_number by f k w))
+    ∙ sym (filter_map-append (of_number by f k) ws (w ∷ []))
 
-pub file_step : (f : Write → Option Commit) (ws : List Write) (i : ℕ) (d : Write) (fs gs : List (Vec Commit Global)) (o : Option Commit) → i < length ws →
-    length gs ≡ length fs → IsFiled f (take i ws) fs → o ≡ f (get_or ws i d) → ((k : ℕ) (e : Vec Commit Global) → k < length fs →
-    (get_or gs k e).items ≡ (get_or fs k e).items ++ option_to_list (if nat_eq (get_or ws i d).key k then o else None)) → IsFiled f (take (i + 1) ws) gs
-file_step f ws i d fs gs o l n p e each =
-    subst (λ us. IsFiled f us gs) (sym (take_more ws i d l)) (file_push f (take i ws) (get_or ws i d) fs gs o n p e each)
+pub file_step : (by : By) (f : Write → Option Commit) (ws : List Write) (i : ℕ) (d : Write) (fs gs : List (Vec Commit Global)) (o : Option Commit) → i < length ws →
+    length gs ≡ length fs → IsFiled by f (take i ws) fs → o ≡ f (get_or ws i d) → ((k : ℕ) (e : Vec Commit Global) → k < length fs →
+    (get_or gs k e).items ≡ (get_or fs k e).items ++ option_to_list (if nat_eq (number_by by (get_or ws i d)) k then o else None)) → IsFiled by f (take (i + 1) ws) gs
+file_step by f ws i d fs gs o l n p e each =
+    subst (λ us. IsFiled by f us gs) (sym (take_more ws i d l)) (file_push by f (take i ws) (get_or ws i d) fs gs o n p e each)
 
 -- ---- files made ready
 
@@ -66,11 +67,11 @@ each_ready g (v ∷ vs) os p q k d l =
     (p k v (omega (arith, l, zip_count (λ (f : Vec Commit Global) (o : Order). IsOrderOf f.items o) (v ∷ vs) os q)))
     (zip_at (λ (f : Vec Commit Global) (o : Order). IsOrderOf f.items o) (v ∷ vs) os k v d q l)
 
-pub orders_filed : (f : Write → Option Commit) (ws : List Write) (count : ℕ) (fs : List (Vec Commit Global)) (os : List Order) →
-    length fs ≡ count → IsFiled f ws fs → AllZip (λ v o. IsOrderOf v.items o) fs os → AreOrders (λ k. filter_map (at_key f k) ws) count os
-orders_filed f ws count fs os n p q = record {
+pub orders_filed : (by : By) (f : Write → Option Commit) (ws : List Write) (count : ℕ) (fs : List (Vec Commit Global)) (os : List Order) →
+    length fs ≡ count → IsFiled by f ws fs → AllZip (λ v o. IsOrderOf v.items o) fs os → AreOrders (λ k. filter_map (of_number by f k) ws) count os
+orders_filed by f ws count fs os n p q = record {
   count = zip_count (λ (v : Vec Commit Global) (o : Order). IsOrderOf v.items o) fs os q ∙ n;
-  each = each_ready (λ k. filter_map (at_key f k) ws) fs os p q;
+  each = each_ready (λ k. filter_map (of_number by f k) ws) fs os p q;
 }
 
 -- ---- rows that transactions wrote

@@ -4,9 +4,11 @@
 
 mod commits;
 mod filed;
+mod limits;
 mod orders;
 mod own;
 
-pub use commits::earlier_by;
+pub use commits::{By, Part, commit_of, earlier_by, file_part};
 pub use filed::{Filed, file_writes};
+pub use limits::{Limits, OrderBy};
 pub use own::{Own, Owns};

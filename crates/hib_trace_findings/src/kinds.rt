@@ -15,15 +15,8 @@ pub enum Judgement {
     Dirty,
     /// Of an answer: its row was written by transactions that were rolled back, and by no others.
     RolledBack,
-    /// Of an answer: it may be right, and so may an earlier one of its session, which was of a newer row.
-    WentBack,
     /// Of a write: the row that it rests on had been replaced before its commit began.
     LostUpdate,
-    /// Of a write or a commit: the order of its key says that a commit that had ended before came after it.
+    /// Of a write: the order of its key says that a commit that had ended before its own began came after it.
     Contradicted,
-    /// Of a list: whether it was computed before a commit isn't known.
-    OpenList,
-    /// Of a list: it was computed before a commit on one of its tables that had ended by this instant, before the list was
-    /// asked for.
-    OldList(u64),
 }

@@ -1,9 +1,11 @@
 //! Judges a recorded trace of another cache: which of its answers were certainly stale, dirty, or of rows that were
-//! rolled back.
+//! rolled back; and which updates were lost.
 #![tactic(auto)]
 
 mod answers;
+mod hits;
 mod traces;
+mod updates;
 
-pub use answers::{Limits, judge_calls};
+pub use answers::{Counts, judge_calls};
 pub use traces::{Judged, judge_trace};

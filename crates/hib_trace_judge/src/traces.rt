@@ -4,8 +4,9 @@ ghost use Rattle.hib_trace_judge.specs.Traces.{IsJudgedTrace};
 ghost use Rattle.hib_trace_lines.specs.Lines.{AreLines, IsRefused};
 ghost use Rattle.std.specs.Prelude.{IfErr, IfOk};
 
-use crate::answers::{Limits, judge_calls};
+use crate::answers::{Counts, judge_calls};
 use hib_trace_calls::numbered;
+use hib_trace_filed::Limits;
 use hib_trace_findings::Judgement;
 use hib_trace_lines::{Event, TraceError, read_trace};
 use std::alloc::{AllocError, Global};
@@ -15,7 +16,7 @@ use std::alloc::{AllocError, Global};
 pub struct Judged {
     /// The events of its lines.
     pub events: Vec<Event>,
-    /// For each line the judgement, if it is an answer of the cache.
+    /// For each line the judgement, if it is an answer of the cache, or a write of which something is certain.
     pub judgements: Vec<Option<Judgement>>,
 }
 
@@ -28,13 +29,16 @@ fn judge_events(
     ensures { IfOk result (λ v. IsJudgedTrace limits.now events.now v.items) }
 {
     let trace = numbered(alloc, events)?;
-    let keys = trace.texts.keys.len();
-    let transactions = trace.texts.transactions.len();
-    let judgements = judge_calls(alloc, &trace.calls, keys, transactions, limits)?;
+    let counts = Counts {
+        keys: trace.texts.keys.len(),
+        transactions: trace.texts.transactions.len(),
+        none: trace.none,
+    };
+    let judgements = judge_calls(alloc, &trace.calls, &counts, limits)?;
     Ok(judgements)
 }
 
-/// The judgements of the answers that the lines of a trace tell.
+/// The judgements of the answers and writes that the lines of a trace tell.
 ///
 /// Errors: those of `read_trace`, for a text that is too long or has a line that is no event, and `NoMemory`.
 pub fn judge_trace(alloc: Global, text: &[u8], limits: &Limits) -> Result<Judged, TraceError>

@@ -1,17 +1,39 @@
-use Rattle.std.proofs.Common.{◌∙◌}
+use Rattle.std.proofs.Common.{◌≡◌, ◌∙◌, ℕ, List, length, sym, subst, ap}
+use Rattle.std.specs.Prelude.{Option}
 use Rattle.hib_trace_calls.proofs.Grown.{zip_step}
+use Rattle.hib_trace_calls.specs.Ends.{IsTable}
+use Rattle.hib_trace_calls.specs.Numbers.{IsBelow}
+use Rattle.hib_trace_calls.specs.declared.calls.Fate.{Fate}
+use Rattle.hib_trace_calls.specs.declared.calls.Write.{Write}
 use Rattle.hib_trace_judge.specs.Told.{told_writes}
-use Rattle.hib_trace_judge.specs.Hits.{IsCallJudged}
-use Rattle.hib_trace_judge.proofs.Alike.{call_told, key_below}
+use Rattle.hib_trace_judge.specs.Lines.{IsCallJudged}
+use Rattle.hib_trace_judge.proofs.Alike.{are_ready, one_below, operation_told}
 use Rattle.hib_trace_judge.proofs.answers.judge_calls.Goals as goal
+
+pub judge_call-requires-clause-ready : goal.judge_call-requires-clause-ready
+judge_call-requires-clause-ready c =
+    are_ready c.args.limits.now c.args.counts.now.none c.args.calls.now c.deref.result.now c.args.counts.now.keys c.in_ok-filed.filed
+    c.in_ok-filed.ensures.commits c.in_ok-filed.ensures.lives c.in_ok-filed.ensures.undone c.in_ok-filed.ensures.owns
 
 pub loop-call-preserved : goal.loop-call-preserved
 loop-call-preserved c =
-    let ws = told_writes c.args.limits.now.clock c.args.keys c.args.calls.now in
-    zip_step (IsCallJudged c.args.limits.now ws) c.args.calls.now c.loop-call.judgements.items c.push.new.self.items c.loop-call.call-index
-    c.call-item.result c.judge_call.result c.loop-call-test.true c.call-item.is c.loop-call.invariant
-    (call_told c.args.limits.now c.deref.result.now ws c.args.keys c.in_ok-filed.filed c.call-item.result c.judge_call.result
-    (c.deref.ensures.value ∙ c.in_ok-writes.ensures) c.in_ok-filed.ensures.commits c.in_ok-filed.ensures.undone c.in_ok-filed.ensures.owns
-    (key_below c.args.keys c.args.calls.now c.loop-call.call-index c.call-item.result c.requires.keys c.loop-call-test.true c.call-item.is)
-    c.judge_call.ensures)
+    let m = c.args.limits.now in
+    let n = c.args.counts.now in
+    let cs = c.args.calls.now in
+    let call = c.call-item.result in
+    let ws : List Write = told_writes m.clock n.keys cs in
+    let fates : List (Option Fate) = c.deref-in-loop-call.result.now in
+    let table : IsTable cs fates = subst (λ (t : List (Option Fate)). IsTable cs t) (sym c.deref-in-loop-call.ensures.value) c.in_ok-fates.ensures.table in
+    let size : length fates ≡ n.transactions =
+    ap length c.deref-in-loop-call.ensures.value ∙ sym c.in_ok-fates.fates.ok.0 ∙ c.in_ok-fates.ensures.count in
+    let key : IsBelow n.keys call.key = one_below n.keys cs (λ d. d.key) c.loop-call.call-index call c.requires.keys c.loop-call-test.true c.call-item.is in
+    let transaction : IsBelow (length fates) call.transaction =
+    subst (λ (k : ℕ). IsBelow k call.transaction) (sym size)
+    (one_below n.transactions cs (λ d. d.transaction) c.loop-call.call-index call c.requires.transactions c.loop-call-test.true c.call-item.is) in
+    zip_step (IsCallJudged m n.none cs ws) cs c.loop-call.judgements.items c.push.new.self.items c.loop-call.call-index call c.judge_call.result
+    c.loop-call-test.true c.call-item.is c.loop-call.invariant
+    (subst (λ (vs : List Write). IsCallJudged m n.none cs vs call c.judge_call.result) (c.deref.ensures.value ∙ c.in_ok-writes.ensures)
+    (operation_told m n.none cs c.deref.result.now n.keys c.in_ok-filed.filed c.in_ok-filed.ensures.commits c.in_ok-filed.ensures.lives
+    c.in_ok-filed.ensures.undone c.in_ok-filed.ensures.owns call.operation fates call c.judge_call.result table transaction key
+    (c.judge_call.ensures n.none)))
     c.in_ok-push.ensures.items

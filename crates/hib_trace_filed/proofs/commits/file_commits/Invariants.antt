@@ -1,9 +1,0 @@
-use Rattle.std.proofs.Common.{◌≡◌, take, vec_len}
-use Rattle.hib_trace_filed.specs.Keys.{IsFiled, commit_of}
-use Rattle.hib_trace_filed.proofs.commits.file_commits.Given as goal
-
-abbrev pub invariant-loop-write : goal.invariant-loop-write
-invariant-loop-write l = record {
-  count : vec_len l.files ≡ l.count;
-  filed : IsFiled (commit_of l.clock) (take l.write-index l.writes) l.files.items;
-}
