@@ -1,5 +1,5 @@
 // The words of the command line.
-use hib_trace_judge::Limits;
+use hib_trace_filed::{Limits, OrderBy};
 use std::alloc::{AllocError, Global};
 
 /// What the words ask for.
@@ -7,23 +7,29 @@ use std::alloc::{AllocError, Global};
 pub struct Asked {
     /// What is allowed for.
     pub limits: Limits,
-    /// The key whose answers are judged, if not all are.
+    /// How many findings are told at most.
+    pub most: u64,
+    /// The key whose lines are judged, if not all are.
     pub key: Option<String>,
 }
 
 /// An option.
 #[derive(Clone, Copy, PartialEq, Eq)]
 enum Name {
+    Order,
     Clock,
     Allow,
+    Most,
     Key,
 }
 
 /// The values that were given.
 #[derive(Clone, Copy)]
 struct Given<'a> {
+    order: Option<&'a str>,
     clock: Option<&'a str>,
     allow: Option<&'a str>,
+    most: Option<&'a str>,
     key: Option<&'a str>,
 }
 
@@ -37,8 +43,10 @@ pub fn is_help(words: &[String]) -> bool {
 
 fn named(word: &str) -> Option<Name> {
     match word {
+        "--order" => Some(Name::Order),
         "--clock" => Some(Name::Clock),
         "--allow" => Some(Name::Allow),
+        "--at-most" => Some(Name::Most),
         "--key" => Some(Name::Key),
         _ => None,
     }
@@ -47,8 +55,10 @@ fn named(word: &str) -> Option<Name> {
 /// Takes a value; whether it is the first of its option.
 fn take<'a>(given: &mut Given<'a>, name: Name, value: &'a str) -> bool {
     let place = match name {
+        Name::Order => &mut given.order,
         Name::Clock => &mut given.clock,
         Name::Allow => &mut given.allow,
+        Name::Most => &mut given.most,
         Name::Key => &mut given.key,
     };
     if place.is_some() {
@@ -61,8 +71,10 @@ fn take<'a>(given: &mut Given<'a>, name: Name, value: &'a str) -> bool {
 /// The values that words give: each option at most once, its value as the next word or after `=`.
 fn given_in(words: &[String]) -> Option<Given<'_>> {
     let mut given = Given {
+        order: None,
         clock: None,
         allow: None,
+        most: None,
         key: None,
     };
     let mut open: Option<Name> = None;
@@ -106,11 +118,31 @@ fn number_of(text: &str) -> Option<u64> {
     Some(number)
 }
 
-fn number_if_any(text: Option<&str>) -> Option<u64> {
+/// The number of an option, or this one if it isn't given.
+fn number_or(text: Option<&str>, default: u64) -> Option<u64> {
     match text {
-        None => Some(0),
+        None => Some(default),
         Some(text) => number_of(text),
     }
+}
+
+/// What tells the order of a key's commits.
+fn order_of(text: Option<&str>) -> Option<OrderBy> {
+    match text {
+        None | Some("commit") => Some(OrderBy::Commit),
+        Some("version") => Some(OrderBy::Version),
+        Some("write") => Some(OrderBy::Write),
+        Some(_) => None,
+    }
+}
+
+/// What the values allow for; none if one has no form.
+fn limits_of(given: &Given<'_>) -> Option<Limits> {
+    Some(Limits {
+        order: order_of(given.order)?,
+        clock: number_or(given.clock, 0)?,
+        allow: number_or(given.allow, 0)?,
+    })
 }
 
 /// What the words ask for; none if they have no form.
@@ -118,18 +150,15 @@ pub fn read_words(alloc: Global, words: &[String]) -> Result<Option<Asked>, Allo
     let Some(given) = given_in(words) else {
         return Ok(None);
     };
-    let Some(clock) = number_if_any(given.clock) else {
+    let Some(limits) = limits_of(&given) else {
         return Ok(None);
     };
-    let Some(allow) = number_if_any(given.allow) else {
+    let Some(most) = number_or(given.most, u64::MAX) else {
         return Ok(None);
     };
     let key = match given.key {
         None => None,
         Some(text) => Some(String::from_str(alloc, text)?),
     };
-    Ok(Some(Asked {
-        limits: Limits { clock, allow },
-        key,
-    }))
+    Ok(Some(Asked { limits, most, key }))
 }

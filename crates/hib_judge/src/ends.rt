@@ -58,6 +58,7 @@ fn say_fault(rt: &HostRuntime, line: u64, fault: Fault) {
         Fault::NotRows => {
             eprintln!(rt; "hib: line {line}: writes are no pairs of a key and a version")
         }
+        Fault::NotTables => eprintln!(rt; "hib: line {line}: tables are no texts"),
         Fault::EndBeforeBegin => eprintln!(rt; "hib: line {line}: it ended before it began"),
     };
 }

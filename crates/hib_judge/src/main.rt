@@ -1,5 +1,5 @@
-//! The program that judges a recorded trace of another cache: which of its answers were certainly stale, dirty, or of
-//! rows that were rolled back. It reads JSON lines from standard input and prints the report. `./hib judge` runs it.
+//! The program that judges a recorded trace of another cache: which of its answers were certainly wrong,
+//! and which updates were lost. It reads JSON lines from standard input and prints the report. `./hib judge` runs it.
 #![tactic(auto)]
 
 mod asked;
@@ -20,13 +20,16 @@ const MOST_BYTES: u64 = 67108865;
 const HELP: &str =
     "Judges a trace of another cache, which comes by standard input as JSON lines (docs/TRACES.md)
 
-Usage: hib judge [--clock N] [--allow N] [--key KEY]
+Usage: hib judge [--order WORD] [--clock N] [--allow N] [--key KEY] [--at-most N]
 
-  --clock N  Clocks may differ by N, in units of the trace's clock; 0 if it isn't given
-  --allow N  An answer may be N old; 0 if it isn't given
-  --key KEY  Judges the answers about this key alone
+  --order WORD  What tells the order of commits, beside calls that don't overlap: commit, which is nothing, and is
+                taken if it isn't given; version, the versions of the rows; write, when the rows were written
+  --clock N     Clocks may differ by N, in units of the trace's clock; 0 if it isn't given
+  --allow N     An answer may be N old; 0 if it isn't given
+  --key KEY     Judges the lines about this key alone
+  --at-most N   Tells the first N findings
 
-The status is 1 if an answer is wrong for certain, 0 if none is, 2 if the words have no form, 3 if a line is no event,
+The status is 1 if something is found, 0 if nothing is, 2 if the words have no form, 3 if a line is no event,
 6 if the trace has more than 67,108,864 bytes, 4 or 5 if reading or writing failed, and 8 if memory ran out.
 ";
 
@@ -49,7 +52,13 @@ fn judge(rt: &HostRuntime, alloc: Global, asked: &Asked) -> End {
     if rt.reader().take(MOST_BYTES).read_to_end(&mut text).is_err() {
         return End::Read;
     }
-    match report_trace(alloc, text.as_slice(), &asked.limits, &asked.key) {
+    match report_trace(
+        alloc,
+        text.as_slice(),
+        &asked.limits,
+        asked.most,
+        &asked.key,
+    ) {
         Ok(report) => write_report(rt, &report),
         Err(TraceError::NoMemory) => End::NoMemory,
         Err(TraceError::TooLong) => End::Long,

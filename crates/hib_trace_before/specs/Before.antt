@@ -42,8 +42,15 @@ row_before clock cs ws k = first (filter_map (early_row clock ws k) cs)
 abbrev pub write_before : ℕ → ℕ → Write
 write_before k r =
     record {
-      transaction = None; key = k; table = 0; row = r; version = None;
-      begin = 0; end = 0; fate = Fate.Committed (record { begin = 0; end = 0 }) }
+      transaction = None;
+      key = k;
+      table = 0;
+      row = r;
+      version = None;
+      begin = 0;
+      end = 0;
+      fate = Fate.Committed (record { begin = 0; end = 0 });
+    }
 
 -- the rows that the first n keys had
 abbrev pub before_of : ℕ → List Call → List Write → ℕ → List Write

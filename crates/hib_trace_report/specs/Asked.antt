@@ -18,10 +18,12 @@ masked key [] js = []
 masked key (e ∷ es) [] = []
 masked key (e ∷ es) (j ∷ js) = asked_one key e j ∷ masked key es js
 
+-- a judgement that says nothing for certain
+abbrev pub is_open : Judgement → Bool
+is_open Judgement.Unknown = true
+is_open Judgement.Possible = true
+is_open _ = false
+
 abbrev pub is_found : Option Judgement → Bool
 is_found None = false
-is_found (Some Judgement.Unknown) = false
-is_found (Some Judgement.Possible) = false
-is_found (Some (Judgement.Stale t)) = true
-is_found (Some Judgement.Dirty) = true
-is_found (Some Judgement.RolledBack) = true
+is_found (Some j) = if is_open j then false else true

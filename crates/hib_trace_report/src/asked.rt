@@ -49,17 +49,20 @@ pub fn asked_of(
     Ok(asked)
 }
 
-// Whether a judgement is a finding.
-fn is_found(judgement: &Option<Judgement>) -> bool
+// Whether a judgement says nothing for certain.
+fn is_open(judgement: Judgement) -> bool
+    ensures { result ≡ asked.is_open judgement }
+{
+    matches!(judgement, Judgement::Unknown | Judgement::Possible)
+}
+
+/// Whether a judgement is a finding.
+pub fn is_found(judgement: &Option<Judgement>) -> bool
     ensures { result ≡ is_found judgement.now }
 {
     match judgement {
         None => false,
-        Some(Judgement::Unknown) => false,
-        Some(Judgement::Possible) => false,
-        Some(Judgement::Stale(_)) => true,
-        Some(Judgement::Dirty) => true,
-        Some(Judgement::RolledBack) => true,
+        Some(judgement) => !is_open(*judgement),
     }
 }
 

@@ -1,9 +1,9 @@
 mod Steps
 mod Orders
 mod Olds
-mod Certain
+pub mod Certain
 mod Searches
-mod Stood
-mod Told
+pub mod Stood
+pub mod Told
 mod Kept
 mod Sorted
