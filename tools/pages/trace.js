@@ -10,7 +10,8 @@ const WORDS = {
 };
 
 const KINDS = {
-  stale: 'A stale answer', dirty: 'An answer before its commit', 'rolled-back': 'An answer that was rolled back', 'went-back': 'An answer that went back',
+  stale: 'A stale answer', dirty: 'An answer before its commit', 'rolled-back': 'An answer that was rolled back',
+  resurrected: 'A stale answer of a deleted row', 'lost-update': 'A lost update', contradicted: 'A commit that contradicts the order',
 };
 
 const $ = (id) => document.getElementById(id);
@@ -46,14 +47,17 @@ function finding_of(element) {
 function with_writes(calls) {
   const wrote = new Map();
   for (const c of calls) if (c.op === 'write') wrote.set(c.tx, [...(wrote.get(c.tx) || []), row_of(c)]);
-  for (const c of calls) if (c.op === 'commit' || c.op === 'rollback') c.rows = wrote.get(c.tx) || (c.writes || []).map((w) => 'version ' + w[1]);
+  for (const c of calls) if (is_end(c)) c.rows = wrote.get(c.tx) || (c.writes || []).map((w) => 'version ' + w[1]);
   return calls;
 }
 
+const is_end = (call) => call.op === 'commit' || call.op === 'rollback';
+
 // The calls that are drawn: those of the story, and as many of the others nearest before it as there is room for.
 function drawn_calls(finding) {
-  const calls = with_writes(finding.calls).filter((c) => c.op !== 'write').sort((a, b) => sign(a.begin - b.begin) || sign(a.end - b.end));
-  const until = calls.filter((c) => c.begin <= finding.hit.end);
+  const {hit} = finding, all = with_writes(finding.calls), own = hit.op === 'write' ? all.find((c) => is_end(c) && c.tx === hit.tx) : null;
+  const calls = all.filter((c) => c.op !== 'write' || c === hit).sort((a, b) => sign(a.begin - b.begin) || sign(a.end - b.end));
+  const until = calls.filter((c) => c.begin <= (own || hit).end);
   return until.slice(Math.max(0, until.length - MOST));
 }
 
@@ -67,16 +71,32 @@ function said_of(call) {
 
 const number = (n) => String(n).replace(/\B(?=(\d{3})+(?!\d))/g, ' ');
 
+// The steps of a write that is found: who gave it its base, which commit had ended before its own began, and its own.
+function story_of_write({hit: write, kind, calls: all}, calls) {
+  const own = all.find((c) => is_end(c) && c.tx === write.tx), base = write.base, steps = [];
+  const add = (call, text) => steps.push({call, text: `${call.session || 'somebody'} ${text}`});
+  const earlier = calls.filter((c) => c.op === 'commit' && c !== own && own && c.end < own.begin);
+  const by = (kind === 'lost-update' ? earlier.filter((c) => !c.rows.includes(base)) : earlier).pop();
+  const read = kind !== 'lost-update' ? null :
+    calls.filter((c) => ['hit', 'load'].includes(c.op) && row_of(c) === base && c.session === write.session && c.begin <= write.begin).pop();
+  if (read) add(read, said_of(read));
+  if (by) add(by, `${said_of(by)}: that had ended before ${write.session || 'the writer'}'s commit began`);
+  add(write, `writes ${row_of(write)}${kind === 'lost-update' ? `, which rests on ${base}` : ''}`);
+  if (own) add(own, said_of(own));
+  return steps.sort((a, b) => sign(a.call.begin - b.call.begin));
+}
+
 // The steps of a story: the commit that made the row old, who loaded and put the row about then, and the answer.
 function story_of(finding) {
   const {hit, old} = finding, row = row_of(hit), calls = drawn_calls(finding), first = calls[0].begin, steps = [];
+  if (hit.op === 'write') return story_of_write(finding, calls);
   const add = (call, text) => steps.push({call, text: `${call.session || 'somebody'} ${text}`});
   const commits = calls.filter((c) => c.op === 'commit' && !c.rows.includes(row));
   const gone = old === null ? null : hit.begin - old;
   const by = gone === null ? null : commits.filter((c) => c.end === gone).pop() || commits.filter((c) => c.end <= gone).pop();
   const put = calls.filter((c) => (c.op === 'put' || c.op === 'update') && row_of(c) === row && c.outcome !== 'refused' && c.begin <= hit.end).pop();
   const load = put && calls.filter((c) => c.op === 'load' && row_of(c) === row && c.session === put.session && c.begin <= put.begin).pop();
-  const own = calls.filter((c) => (c.op === 'commit' || c.op === 'rollback') && c.rows.includes(row)).pop();
+  const own = calls.filter((c) => is_end(c) && c.rows.includes(row)).pop();
   if (own) add(own, said_of(own));
   if (by) add(by, `${said_of(by)}: that had ended at ${number(by.end - first)}, so from then on ${row} was old`);
   if (load) add(load, `loads ${row}${by ? (load.end <= by.begin ? ', before that commit began' : load.begin < by.end ? ', which overlaps that commit' : '') : ''}`);
