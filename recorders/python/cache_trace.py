@@ -12,7 +12,7 @@ A trace is opened once. Each thread, or each request, speaks through a session o
         title = database.load('Book 1', lambda: query(connection))
         cache.set('Book 1', title)
 
-    database.write('Book 1', 'Dune', lambda: update(connection))
+    database.write('Book 1', 'Dune', lambda: update(connection), base=title)
     database.commit()
     cache.delete('Book 1')
 
@@ -77,12 +77,12 @@ class Session:
         answer = call(*arguments, **named)
         return answer, begin, self.trace.clock()
 
-    def note(self, operation, begin, end, key=None, value=NONE, outcome=None):
+    def note(self, operation, begin, end, key=None, value=NONE, outcome=None, base=NONE):
         """Writes the line of a call."""
         self.trace.line(
             session=self.name, tx='%s/%d' % (self.name, self._transaction), op=operation,
             key=key if key is None else str(key), value=None if value is NONE else self.trace.tell(value),
-            begin=begin, end=end, outcome=outcome)
+            base=None if base is NONE else self.trace.tell(base), begin=begin, end=end, outcome=outcome)
 
     def next_transaction(self):
         """What comes now is of another transaction."""
@@ -130,10 +130,11 @@ class Database:
             self._session.note('load', begin, end, key, value)
         return value
 
-    def write(self, key, value, do):
-        """Does `do()`, recorded as a write of this value at this key."""
+    def write(self, key, value, do, base=NONE):
+        """Does `do()`, recorded as a write of this value at this key. `base` is the value that the new one rests on, if the
+        writer has read one."""
         answer, begin, end = self._session.timed(do)
-        self._session.note('write', begin, end, key, value)
+        self._session.note('write', begin, end, key, value, base=base)
         return answer
 
     def commit(self):
