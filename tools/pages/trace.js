@@ -6,12 +6,12 @@ const STEP = 17, LEFT = 120, LANE = 230, MOST = 160;
 
 const WORDS = {
   hit: 'is answered', miss: 'misses', put: 'puts', update: 'puts', drop: 'drops the key', lock: 'locks the key', unlock: 'gives the key back',
-  load: 'loads', write: 'writes', commit: 'commits', rollback: 'rolls back',
+  load: 'loads', 'list-hit': 'is answered', 'list-load': 'loads', 'list-put': 'puts', 'list-miss': 'misses', write: 'writes', commit: 'commits', rollback: 'rolls back',
 };
 
 const KINDS = {
   stale: 'A stale answer', dirty: 'An answer before its commit', 'rolled-back': 'An answer that was rolled back',
-  resurrected: 'A stale answer of a deleted row', 'lost-update': 'A lost update', contradicted: 'A commit that contradicts the order',
+  resurrected: 'A stale answer of a deleted row', 'lost-update': 'A lost update', 'old-list': 'An old list', contradicted: 'A commit that contradicts the order',
 };
 
 const $ = (id) => document.getElementById(id);
@@ -25,7 +25,7 @@ function made(tag, text, more = {}) {
 
 const row_of = (call) => call.value !== undefined && call.value !== null ? call.value : call.version !== undefined && call.version !== null ? 'version ' + call.version : 'no row';
 
-const has_row = (call) => ['hit', 'put', 'update', 'load', 'write'].includes(call.op);
+const has_row = (call) => ['hit', 'put', 'update', 'load', 'write', 'list-hit', 'list-put', 'list-load'].includes(call.op);
 
 // An instant as it stands in a line: a clock in nanoseconds has more digits than a number here keeps.
 const instant = (text, name) => BigInt(new RegExp(`"${name}"\\s*:\\s*([0-9]+)`).exec(text)[1]);
@@ -43,10 +43,10 @@ function finding_of(element) {
   return {line: Number(line), kind, said, old: old === '' ? null : BigInt(old), calls, hit: calls.find((c) => c.line === Number(line))};
 }
 
-// What a commit's transaction wrote at the key, told with the commit itself.
-function with_writes(calls) {
-  const wrote = new Map();
-  for (const c of calls) if (c.op === 'write') wrote.set(c.tx, [...(wrote.get(c.tx) || []), row_of(c)]);
+// What a commit's transaction wrote at the key, or at the keys of a list's tables, told with the commit itself.
+function with_writes({hit, calls}) {
+  const wrote = new Map(), told = (c) => hit.op === 'list-hit' ? `${c.key} as ${row_of(c)}` : row_of(c);
+  for (const c of calls) if (c.op === 'write') wrote.set(c.tx, [...(wrote.get(c.tx) || []), told(c)]);
   for (const c of calls) if (is_end(c)) c.rows = wrote.get(c.tx) || (c.writes || []).map((w) => 'version ' + w[1]);
   return calls;
 }
@@ -55,7 +55,7 @@ const is_end = (call) => call.op === 'commit' || call.op === 'rollback';
 
 // The calls that are drawn: those of the story, and as many of the others nearest before it as there is room for.
 function drawn_calls(finding) {
-  const {hit} = finding, all = with_writes(finding.calls), own = hit.op === 'write' ? all.find((c) => is_end(c) && c.tx === hit.tx) : null;
+  const {hit} = finding, all = with_writes(finding), own = hit.op === 'write' ? all.find((c) => is_end(c) && c.tx === hit.tx) : null;
   const calls = all.filter((c) => c.op !== 'write' || c === hit).sort((a, b) => sign(a.begin - b.begin) || sign(a.end - b.end));
   const until = calls.filter((c) => c.begin <= (own || hit).end);
   return until.slice(Math.max(0, until.length - MOST));
@@ -94,11 +94,13 @@ function story_of(finding) {
   const commits = calls.filter((c) => c.op === 'commit' && !c.rows.includes(row));
   const gone = old === null ? null : hit.begin - old;
   const by = gone === null ? null : commits.filter((c) => c.end === gone).pop() || commits.filter((c) => c.end <= gone).pop();
-  const put = calls.filter((c) => (c.op === 'put' || c.op === 'update') && row_of(c) === row && c.outcome !== 'refused' && c.begin <= hit.end).pop();
-  const load = put && calls.filter((c) => c.op === 'load' && row_of(c) === row && c.session === put.session && c.begin <= put.begin).pop();
+  const [puts, loads, old_text] = hit.op === 'list-hit' ? [['list-put'], 'list-load', `so ${row} was computed before it`] :
+    [['put', 'update'], 'load', `so from then on ${row} was old`];
+  const put = calls.filter((c) => puts.includes(c.op) && row_of(c) === row && c.outcome !== 'refused' && c.begin <= hit.end).pop();
+  const load = put && calls.filter((c) => c.op === loads && row_of(c) === row && c.session === put.session && c.begin <= put.begin).pop();
   const own = calls.filter((c) => is_end(c) && c.rows.includes(row)).pop();
   if (own) add(own, said_of(own));
-  if (by) add(by, `${said_of(by)}: that had ended at ${number(by.end - first)}, so from then on ${row} was old`);
+  if (by) add(by, `${said_of(by)}: that had ended at ${number(by.end - first)}, ${old_text}`);
   if (load) add(load, `loads ${row}${by ? (load.end <= by.begin ? ', before that commit began' : load.begin < by.end ? ', which overlaps that commit' : '') : ''}`);
   if (put) add(put, `puts ${row} into the cache${by ? (put.begin >= by.end ? ', after that commit had ended' : ', which overlaps that commit or comes before it') : ''}`);
   steps.sort((a, b) => sign(a.call.begin - b.call.begin));

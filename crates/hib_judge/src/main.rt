@@ -1,5 +1,5 @@
 //! The program that judges a recorded trace of another cache: which of its answers were certainly wrong,
-//! and which updates were lost. It reads JSON lines from standard input and prints the report. `./hib judge` runs it.
+//! which updates were lost, and which lists are old. It reads JSON lines from standard input and prints the report. `./hib judge` runs it.
 #![tactic(auto)]
 
 mod asked;

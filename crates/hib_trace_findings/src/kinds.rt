@@ -19,4 +19,9 @@ pub enum Judgement {
     LostUpdate,
     /// Of a write: the order of its key says that a commit that had ended before its own began came after it.
     Contradicted,
+    /// Of a list: it isn't known to be old.
+    OpenList,
+    /// Of a list: each load that gave it had ended before a commit on one of its tables began, and by this instant, before
+    /// the list was asked for, such a commit had ended.
+    OldList(u64),
 }

@@ -17,14 +17,16 @@ use Rattle.hib_trace_calls.specs.declared.calls.Call.{Call}
 use Rattle.hib_trace_calls.specs.declared.calls.Fate.{Fate}
 use Rattle.hib_trace_calls.specs.declared.calls.Write.{Write}
 use Rattle.hib_trace_calls.proofs.Tables.{looked_is}
-use Rattle.hib_trace_filed.specs.Keys.{commit_of, commits_of, undone_writes}
+use Rattle.hib_trace_filed.specs.Keys.{commit_of, commits_of, table_commits, undone_writes}
 use Rattle.hib_trace_filed.specs.Orders.{AreLives, AreOrders}
 use Rattle.hib_trace_filed.specs.Own.{own_written, has_own}
 use Rattle.hib_trace_filed.specs.declared.filed.Filed.{Filed}
 use Rattle.hib_trace_filed.specs.declared.limits.Limits.{Limits}
-use Rattle.hib_trace_judge.specs.Found.{AreReady, IsHitFoundIn, IsKeyFound, IsOperationFound, IsWriteFound, IsWriteFoundIn}
+use Rattle.hib_trace_lists.specs.Loads.{TellLoads}
+use Rattle.hib_trace_lists.specs.declared.lists.Lists.{Lists}
+use Rattle.hib_trace_judge.specs.Found.{AreReady, IsHitFoundIn, IsKeyFound, IsListFound, IsOperationFound, IsWriteFound, IsWriteFoundIn}
 use Rattle.hib_trace_judge.specs.Hits.{answer_of, IsHitFound, IsHitJudged, IsKeyJudged}
-use Rattle.hib_trace_judge.specs.Lines.{IsOperationJudged}
+use Rattle.hib_trace_judge.specs.Lines.{IsListLineJudged, IsOperationJudged}
 use Rattle.hib_trace_judge.specs.Updates.{IsUpdateJudged, IsWriteJudged, IsWriteToldAs}
 
 some_of : {X : Type 0} (xs : List X) (k : ℕ) → k < length xs → X
@@ -123,11 +125,20 @@ module _ (m : Limits) (none : ℕ) (cs : List Call) (ws : List Write) (count : �
       subst (λ (fate : Fate). IsWriteToldAs m ws (row_write_if fate c c.key c.table) c.base j) (looked_is cs fates c.transaction t b)
       (written (looked fates c.transaction) c c.key c.table j l i)
 
-  pub operation_told : (o : Operation) (fates : List (Option Fate)) (c : Call) (j : Option Judgement) → IsTable cs fates → IsBelow (length fates) c.transaction →
-      IsBelow count c.key → IsOperationFound o none f fates m c j → IsOperationJudged o m none cs ws c j
-  operation_told Operation.Hit fates c j t b l i = key_told c.key c j l i
-  operation_told Operation.Write fates c j t b l i = write_told fates c j t b l i
-  operation_told _ fates c j t b l i = i
+  list_told : (l : Lists) (k : Option ℕ) (c : Call) (j : Option Judgement) → TellLoads m.clock (table_commits m ws) cs l.loads.items → IsListFound k l m c j →
+      IsListLineJudged m cs ws k c j
+  list_told l None c None t i = tt
+  list_told l None c (Some j) t i = i
+  list_told l (Some k) c None t i = i
+  list_told l (Some k) c (Some j) t i = i m.clock (table_commits m ws) cs t
+
+  pub operation_told : (o : Operation) (x : Lists) (fates : List (Option Fate)) (c : Call) (j : Option Judgement) →
+      TellLoads m.clock (table_commits m ws) cs x.loads.items → IsTable cs fates → IsBelow (length fates) c.transaction → IsBelow count c.key →
+      IsOperationFound o none f x fates m c j → IsOperationJudged o m none cs ws c j
+  operation_told Operation.Hit x fates c j y t b l i = key_told c.key c j l i
+  operation_told Operation.ListHit x fates c j y t b l i = list_told x c.key c j y i
+  operation_told Operation.Write x fates c j y t b l i = write_told fates c j t b l i
+  operation_told _ x fates c j y t b l i = i
 
 pub one_below : (count : ℕ) (cs : List Call) (of : Call → Option ℕ) (i : ℕ) (c : Call) → All (λ d. IsBelow count (of d)) cs → i < length cs →
     c ≡ get_or cs i c → IsBelow count (of c)

@@ -14,7 +14,11 @@ use Rattle.hib_trace_calls.specs.Writes.{row_write_if}
 use Rattle.hib_trace_calls.specs.declared.calls.Call.{Call}
 use Rattle.hib_trace_calls.specs.declared.calls.Fate.{Fate}
 use Rattle.hib_trace_calls.specs.declared.calls.Write.{Write}
-use Rattle.hib_trace_filed.specs.Keys.{commit_of}
+use Rattle.hib_trace_filed.specs.Keys.{commit_of, earlier}
+use Rattle.hib_trace_law.specs.declared.commits.Commit.{Commit}
+use Rattle.hib_trace_lists.specs.Lists.{IsListJudged}
+use Rattle.hib_trace_lists.specs.Loads.{AreAllInOrder, TellLoads}
+use Rattle.hib_trace_lists.specs.declared.lists.Lists.{Lists}
 use Rattle.hib_trace_filed.specs.Own.{has_own}
 use Rattle.hib_trace_filed.specs.declared.filed.Filed.{Filed}
 use Rattle.hib_trace_filed.specs.declared.limits.Limits.{Limits}
@@ -49,7 +53,19 @@ IsWriteFound (Some w) f m base j = (d : Order) → IsUpdateJudged (slice_index_o
 abbrev pub IsWriteFoundIn : Filed → List (Option Fate) → Limits → Call → Option Judgement → Type 0
 IsWriteFoundIn f fates m c j = IsWriteFound (row_write_if (looked fates c.transaction) c c.key c.table) f m c.base j
 
-abbrev pub IsOperationFound : Operation → ℕ → Filed → List (Option Fate) → Limits → Call → Option Judgement → Type 0
-IsOperationFound Operation.Hit none f fates m c j = IsKeyFound c.key none f m c j
-IsOperationFound Operation.Write none f fates m c j = IsWriteFoundIn f fates m c j
-IsOperationFound _ none f fates m c j = j ≡ None
+pub record AreListsReady (n : ℕ) (l : Lists) : Type 0 where
+  pub count : length l.loads.items ≡ n
+  pub order : AreAllInOrder l.loads.items
+
+abbrev pub IsListFound : Option ℕ → Lists → Limits → Call → Option Judgement → Type 0
+IsListFound None l m c None = Unit {0}
+IsListFound None l m c (Some j) = ⊥
+IsListFound (Some k) l m c None = ⊥
+IsListFound (Some k) l m c (Some j) = (clock : ℕ) (of : ℕ → List Commit) (cs : List Call) → TellLoads clock of cs l.loads.items →
+    IsListJudged clock of cs k c.row (earlier c.begin m.allow) c.end j
+
+abbrev pub IsOperationFound : Operation → ℕ → Filed → Lists → List (Option Fate) → Limits → Call → Option Judgement → Type 0
+IsOperationFound Operation.Hit none f l fates m c j = IsKeyFound c.key none f m c j
+IsOperationFound Operation.ListHit none f l fates m c j = IsListFound c.key l m c j
+IsOperationFound Operation.Write none f l fates m c j = IsWriteFoundIn f fates m c j
+IsOperationFound _ none f l fates m c j = j ≡ None

@@ -1,9 +1,10 @@
 //! Judges a recorded trace of another cache: which of its answers were certainly stale, dirty, or of rows that were
-//! rolled back; and which updates were lost.
+//! rolled back; which updates were lost, and which lists are old.
 #![tactic(auto)]
 
 mod answers;
 mod hits;
+mod lists;
 mod traces;
 mod updates;
 

@@ -16,7 +16,8 @@ use std::alloc::{AllocError, Global};
 pub struct Judged {
     /// The events of its lines.
     pub events: Vec<Event>,
-    /// For each line the judgement, if it is an answer of the cache, or a write of which something is certain.
+    /// For each line the judgement, if it is an answer of the cache, a list, or a write of which something is
+    /// certain.
     pub judgements: Vec<Option<Judgement>>,
 }
 
@@ -31,6 +32,7 @@ fn judge_events(
     let trace = numbered(alloc, events)?;
     let counts = Counts {
         keys: trace.texts.keys.len(),
+        tables: trace.texts.tables.len(),
         transactions: trace.texts.transactions.len(),
         none: trace.none,
     };
@@ -38,7 +40,7 @@ fn judge_events(
     Ok(judgements)
 }
 
-/// The judgements of the answers and writes that the lines of a trace tell.
+/// The judgements of the answers, lists and writes that the lines of a trace tell.
 ///
 /// Errors: those of `read_trace`, for a text that is too long or has a line that is no event, and `NoMemory`.
 pub fn judge_trace(alloc: Global, text: &[u8], limits: &Limits) -> Result<Judged, TraceError>

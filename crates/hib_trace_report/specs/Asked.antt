@@ -22,6 +22,7 @@ masked key (e ∷ es) (j ∷ js) = asked_one key e j ∷ masked key es js
 abbrev pub is_open : Judgement → Bool
 is_open Judgement.Unknown = true
 is_open Judgement.Possible = true
+is_open Judgement.OpenList = true
 is_open _ = false
 
 abbrev pub is_found : Option Judgement → Bool

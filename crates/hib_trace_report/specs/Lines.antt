@@ -42,8 +42,10 @@ abbrev pub finding_text : ℕ → EventText → Option Judgement → List ℕ
 finding_text n e None = []
 finding_text n e (Some Judgement.Unknown) = []
 finding_text n e (Some Judgement.Possible) = []
+finding_text n e (Some Judgement.OpenList) = []
 finding_text n e (Some (Judgement.Stale t)) = aged n (codes ": stale-hit ") e t
 finding_text n e (Some (Judgement.Resurrected t)) = aged n (codes ": resurrected-hit ") e t
+finding_text n e (Some (Judgement.OldList t)) = aged n (codes ": old-list ") e t
 finding_text n e (Some Judgement.Dirty) = line_with n (codes ": dirty-hit ") e (codes "\n")
 finding_text n e (Some Judgement.RolledBack) = line_with n (codes ": rolled-back-hit ") e (codes "\n")
 finding_text n e (Some Judgement.LostUpdate) = line_with n (codes ": lost-update ") e (codes "\n")
@@ -68,6 +70,8 @@ more_text most js = if nat_lt most (count_by is_found js) then codes "and " ++ d
 abbrev pub is_hit : Judgement → Bool
 is_hit Judgement.LostUpdate = false
 is_hit Judgement.Contradicted = false
+is_hit Judgement.OpenList = false
+is_hit (Judgement.OldList t) = false
 is_hit _ = true
 
 abbrev pub is_kind : Kind → Judgement → Bool
@@ -80,6 +84,8 @@ is_kind Kind.Dirty Judgement.Dirty = true
 is_kind Kind.RolledBack Judgement.RolledBack = true
 is_kind Kind.Lost Judgement.LostUpdate = true
 is_kind Kind.Contradicted Judgement.Contradicted = true
+is_kind Kind.OpenList Judgement.OpenList = true
+is_kind Kind.OldList (Judgement.OldList t) = true
 is_kind k j = false
 
 abbrev pub is_told : Kind → Option Judgement → Bool
@@ -102,8 +108,11 @@ certain_text js =
 abbrev pub writes_text : List (Option Judgement) → List ℕ
 writes_text js = count_text (codes "\nwrites lost ") Kind.Lost js ++ count_text (codes " contradicted ") Kind.Contradicted js
 
+abbrev pub lists_text : List (Option Judgement) → List ℕ
+lists_text js = count_text (codes "\nlists open ") Kind.OpenList js ++ count_text (codes " old ") Kind.OldList js
+
 abbrev pub counts_text : List (Option Judgement) → List ℕ
-counts_text js = open_text js ++ certain_text js ++ writes_text js ++ codes "\n"
+counts_text js = open_text js ++ certain_text js ++ writes_text js ++ lists_text js ++ codes "\n"
 
 -- ---- what is taken for granted
 

@@ -53,7 +53,10 @@ pub fn asked_of(
 fn is_open(judgement: Judgement) -> bool
     ensures { result ≡ asked.is_open judgement }
 {
-    matches!(judgement, Judgement::Unknown | Judgement::Possible)
+    matches!(
+        judgement,
+        Judgement::Unknown | Judgement::Possible | Judgement::OpenList
+    )
 }
 
 /// Whether a judgement is a finding.

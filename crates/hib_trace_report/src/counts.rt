@@ -1,6 +1,6 @@
 // How many answers are what.
 ghost use Rattle.hib_trace_report.specs.Lines as lines;
-ghost use Rattle.hib_trace_report.specs.Lines.{certain_text, count_text, counts_text, open_text, order_text, premises_text, rows_text, writes_text};
+ghost use Rattle.hib_trace_report.specs.Lines.{certain_text, count_text, counts_text, lists_text, open_text, order_text, premises_text, rows_text, writes_text};
 ghost use Rattle.std.specs.Prelude.{◌≡◌, ◌++◌, OnOk, count_by};
 
 use hib_texts::put_labelled;
@@ -29,6 +29,10 @@ pub enum Kind {
     Lost,
     /// Lines that contradict the order.
     Contradicted,
+    /// Lists that aren't known to be old.
+    OpenList,
+    /// Old lists.
+    OldList,
 }
 
 // Whether a judgement is of an answer.
@@ -38,6 +42,8 @@ fn is_hit(judgement: Judgement) -> bool
     match judgement {
         Judgement::LostUpdate => false,
         Judgement::Contradicted => false,
+        Judgement::OpenList => false,
+        Judgement::OldList(_) => false,
         _ => true,
     }
 }
@@ -56,6 +62,8 @@ fn is_kind(kind: Kind, judgement: Judgement) -> bool
         Kind::RolledBack => matches!(judgement, Judgement::RolledBack),
         Kind::Lost => matches!(judgement, Judgement::LostUpdate),
         Kind::Contradicted => matches!(judgement, Judgement::Contradicted),
+        Kind::OpenList => matches!(judgement, Judgement::OpenList),
+        Kind::OldList => matches!(judgement, Judgement::OldList(_)),
     }
 }
 
@@ -140,6 +148,18 @@ fn put_writes(
     )
 }
 
+// Adds how many lists aren't known to be old, and how many are.
+fn put_lists(
+    alloc: Global,
+    out: &mut Vec<u8>,
+    judgements: &[Option<Judgement>],
+) -> Result<(), AllocError>
+    ensures { OnOk result (out.new.items ≡ out.old.items ++ lists_text judgements.now) }
+{
+    put_count(alloc, out, b"\nlists open ", Kind::OpenList, judgements)?;
+    put_count(alloc, out, b" old ", Kind::OldList, judgements)
+}
+
 /// Adds how many answers are what.
 pub fn put_counts(
     alloc: Global,
@@ -151,6 +171,7 @@ pub fn put_counts(
     put_open(alloc, out, judgements)?;
     put_certain(alloc, out, judgements)?;
     put_writes(alloc, out, judgements)?;
+    put_lists(alloc, out, judgements)?;
     out.extend_from_slice(b"\n")
 }
 

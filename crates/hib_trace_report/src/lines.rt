@@ -117,6 +117,7 @@ fn put_finding(
             event,
             by,
         ),
+        Some(Judgement::OldList(by)) => put_aged(alloc, out, number, b": old-list ", event, by),
         Some(Judgement::Dirty) => put_line(alloc, out, number, b": dirty-hit ", event, b"\n"),
         Some(Judgement::RolledBack) => {
             put_line(alloc, out, number, b": rolled-back-hit ", event, b"\n")
@@ -139,6 +140,7 @@ fn put_finding(
         ),
         Some(Judgement::Unknown) => Ok(()),
         Some(Judgement::Possible) => Ok(()),
+        Some(Judgement::OpenList) => Ok(()),
         None => Ok(()),
     }
 }
