@@ -51,7 +51,6 @@ here named text x st Refusal.Killed e h = (st, (e, h))
 here named text x st Refusal.Busy e h = (st, (e, h))
 here named text x st (Refusal.Statement k) e h = absurd h
 here named text x st Refusal.Unfit e h = (st, (e, h))
-here named text x st Refusal.Record e h = absurd h
 here named text x st Refusal.Memory e h = tt
 
 -- why a text isn't said, once its session has begun
@@ -72,5 +71,4 @@ no_statement named text x Refusal.Killed h = absurd h
 no_statement named text x Refusal.Busy h = absurd h
 no_statement named text x (Refusal.Statement k) h = h
 no_statement named text x Refusal.Unfit h = absurd h
-no_statement named text x Refusal.Record h = absurd h
 no_statement named text x Refusal.Memory h = tt

@@ -14,7 +14,6 @@ word_of Refusal.Killed = codes "killed"
 word_of Refusal.Busy = codes "busy"
 word_of (Refusal.Statement kind) = codes "statement"
 word_of Refusal.Unfit = codes "statement"
-word_of Refusal.Record = codes "record"
 word_of Refusal.Memory = codes "memory"
 
 -- what says more

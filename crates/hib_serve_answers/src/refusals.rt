@@ -26,8 +26,6 @@ pub enum Refusal {
     Statement(Kind),
     /// The statement is of something that isn't declared.
     Unfit,
-    /// A step of the run can't be played again.
-    Record,
     /// Memory ran out.
     Memory,
 }
@@ -47,7 +45,6 @@ impl Refusal {
             Refusal::Busy => b"busy",
             Refusal::Statement(_) => b"statement",
             Refusal::Unfit => b"statement",
-            Refusal::Record => b"record",
             Refusal::Memory => b"memory",
         }
     }
